@@ -1,0 +1,4 @@
+pub mod Letters
+pub mod Statements
+pub mod Codec
+pub mod Frames
