@@ -42,6 +42,8 @@ pub trait Entry: Copy {
 
     law unique: { (x y : Self) → bytes x ≡ bytes y → x ≡ y };
 
+    law brief: { length heading < 256 };
+
     // as many columns as names
     law matched: { (s : List ℕ) → valid s ≡ true → length (columns s) ≡ countBy (eqb 59) heading + 1 };
 

@@ -152,3 +152,33 @@ walks w s =
           let again = ap (walked (length s) w) e ∙ cut-again (length s) w ts ok (omega (arith, ap length e)) in
           (ap (λ (k : Walk). k .found) again, ap (λ (k : Walk). k .stop) again);
     }
+
+-- more steps than bytes change nothing
+walked-enough : (m n w : ℕ) (s : List ℕ) → length s ≤ m → length s ≤ n → walked m w s ≡ walked n w s
+unfolding walked
+walked-enough zero zero w s a b = refl
+walked-enough zero (suc n) w [] a b = refl
+walked-enough (suc m) zero w [] a b = refl
+walked-enough zero (suc n) w (x ∷ s) a b = absurd (omega arith)
+walked-enough (suc m) zero w (x ∷ s) a b = absurd (omega arith)
+walked-enough (suc m) (suc n) w s a b =
+    by (firstOf w s) refl (λ t p. walked-enough m n w (drop (length t) s) (omega (arith, shorter w s t p)) (omega (arith, shorter w s t p)))
+  where
+    by : (v : Result (Option (List ℕ)) Refusal) → firstOf w s ≡ v
+        → ((t : List ℕ) → Piece w s t → walked m w (drop (length t) s) ≡ walked n w (drop (length t) s))
+        → onward v (λ t. walked m w (drop (length t) s)) ≡ onward v (λ t. walked n w (drop (length t) s))
+    by (Err r) e more = refl
+    by (Ok None) e more = refl
+    by (Ok (Some t)) e more = ap (λ (k : Walk). record { found = t ∷ k .found; stop = k .stop }) (more t (first-piece w s t e))
+
+-- the walk goes as its first statement says
+pub walk-first : (w : ℕ) (s : List ℕ) (v : Result (Option (List ℕ)) Refusal) → firstOf w s ≡ v → walkOf w s ≡ onward v (λ t. walkOf w (drop (length t) s))
+unfolding walked
+walk-first w s v e = walked-enough (length s) (suc (length s)) w s (omega arith) (omega arith) ∙ ap (λ v. onward v (λ t. walked (length s) w (drop (length t) s))) e ∙ by v e
+  where
+    by : (v : Result (Option (List ℕ)) Refusal) → firstOf w s ≡ v → onward v (λ t. walked (length s) w (drop (length t) s)) ≡ onward v (λ t. walkOf w (drop (length t) s))
+    by (Err r) e = refl
+    by (Ok None) e = refl
+    by (Ok (Some t)) e =
+        ap (λ (k : Walk). record { found = t ∷ k .found; stop = k .stop })
+        (walked-enough (length s) (length (drop (length t) s)) w (drop (length t) s) (omega (arith, shorter w s t (first-piece w s t e))) (omega arith))

@@ -1,7 +1,9 @@
 -- A statement and its bytes.
 use Prim.Native.Nat.{ℕ}
-use mathlib.Core.List.{List, [], _∷_, _++_}
+use mathlib.Core.List.{List, [], _∷_}
 use denote.Ref.{now}
+use Rattle.std.specs.declared.option.Option.{Option}
+use Rattle.std.specs.declared.option.Option.the-variants.{Some, None}
 use Rattle.wire.specs.Letters.{byteOf}
 use Rattle.wire.specs.declared.letter.Letter.{Letter}
 use Rattle.wire.specs.declared.letter.Letter.the-variants as letters
@@ -51,3 +53,14 @@ operandsIn (finish e b) = e ∷ b ∷ []
 -- a letter and operands
 abbrev pub bytesOf : Message → List ℕ
 bytesOf m = byteOf (letterIn m) ∷ operandsIn m
+
+-- its entry, if it has one
+abbrev pub itemIn : Message → Option (List ℕ)
+itemIn (send s x) = Some x
+itemIn (echo q s x) = Some x
+itemIn (ready q s x) = Some x
+itemIn (have q s x) = Some x
+itemIn (value e r b) = None
+itemIn (seen e r b) = None
+itemIn (confirm e r u) = None
+itemIn (finish e b) = None

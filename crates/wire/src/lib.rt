@@ -7,6 +7,7 @@ mod letter;
 mod letters;
 mod parser;
 mod statement;
+mod statements;
 mod writer;
 
 pub use frame::next;
