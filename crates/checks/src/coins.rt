@@ -1,9 +1,9 @@
-use std::test::*;
 use coin::Bench;
 use coin::BenchCoin;
 use coin::Coin;
 use coin::Sheet;
 use coin::SheetCoin;
+use std::test::*;
 
 #[test]
 fn bench() -> Result<(), Fail> {

@@ -1,9 +1,9 @@
-use std::test::*;
 use entry::Entry;
 use entry::Reading;
 use entry::ReadingEntry;
 use entry::ShareOrder;
 use entry::ShareOrderEntry;
+use std::test::*;
 
 // A reading's bytes.
 fn reading(house: u16, week: u8, quantity: u8, amount: u32) -> [u8; 8] {

@@ -1,9 +1,9 @@
-use std::test::*;
 use common::Refusal;
 use entry::Reading;
 use entry::ReadingEntry;
 use entry::ShareOrder;
 use entry::ShareOrderEntry;
+use std::test::*;
 use wire::Statement;
 use wire::next;
 use wire::parse;
@@ -130,7 +130,10 @@ fn unwritten(r: Result<usize, Refusal>, number: u8) -> Result<(), Fail> {
 
 fn send(item: &[u8], number: u8) -> Result<(), Fail> {
     let mut out = [0; 64];
-    unwritten(Statement::Send { slot: 0, item }.write::<ShareOrder>(&mut out), number)
+    unwritten(
+        Statement::Send { slot: 0, item }.write::<ShareOrder>(&mut out),
+        number,
+    )
 }
 
 #[test]

@@ -1,6 +1,6 @@
-use std::test::*;
 use common::Refusal;
 use common::quorum;
+use std::test::*;
 
 fn answers(n: u8, f: u8, q: u8) -> Result<(), Fail> {
     match quorum(n) {

@@ -1,9 +1,9 @@
 ghost use mathlib.Core.Path.{_≡_};
 ghost use Rattle.coin.specs.Coins.{sheetOf, dealOf, dealtOf};
-use common::Refusal;
 use crate::kind::Coin;
 use crate::sheet::SHEET;
 use crate::sheet::Sheet;
+use common::Refusal;
 
 impl Sheet {
     // The sheet with these bytes.

@@ -2,6 +2,7 @@
 
 // How many replicas a set has.
 pub const MIN_REPLICAS: u8 = 4;
+
 pub const MAX_REPLICAS: u8 = 16;
 
 // How many slots a queue has at most.

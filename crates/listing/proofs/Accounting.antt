@@ -45,12 +45,16 @@ before k q t ts sound stop e (inr w) = inr (w .0, (w .1 .0, w .1 .1, ap (λ us. 
 
 told : (k : Kind) (p : ℕ) (ts : List (List ℕ)) (stop : Option Refusal) → Told k p ts stop (listFrom k p ts stop)
 told k p [] None = record {
-  sound = []; rows = refl; count = refl;
+  sound = [];
+  rows = refl;
+  count = refl;
   whole = λ _. (refl, refl);
   torn = λ e q f. absurd (let z : _≡_ {A = ℕ} 0 1 = cc in omega arith);
 }
 told k p [] (Some r) = record {
-  sound = []; rows = refl; count = refl;
+  sound = [];
+  rows = refl;
+  count = refl;
   whole = λ f. absurd (let z : _≡_ {A = ℕ} 0 1 = cc in omega arith);
   torn = λ e q f. let x = same-fault r e p q f in (omega (arith, x .1), inl (refl, ap Some (x .0)));
 }
@@ -59,7 +63,9 @@ told k p (t ∷ ts) stop = by (partRow k p t) refl (told k (p + length t) ts sto
     by : (o : Option (List ℕ)) → partRow k p t ≡ o → Told k (p + length t) ts stop (listFrom k (p + length t) ts stop)
         → Told k p (t ∷ ts) stop (onto o p (listFrom k (p + length t) ts stop))
     by None e more = record {
-      sound = []; rows = refl; count = refl;
+      sound = [];
+      rows = refl;
+      count = refl;
       whole = λ f. absurd (let z : _≡_ {A = ℕ} 0 1 = cc in omega arith);
       torn = λ r q f.
           let x = same-fault refusals.Entry r p q f in
@@ -93,7 +99,7 @@ taken : {s : List ℕ} {q : ℕ} {front rest : List ℕ} → Split s q front res
 taken {s} {q} {front} {rest} c = (
   omega (arith, ap length (c .is) ∙ length-append front rest, c .long),
   sym (ap (take q) (c .is) ∙ take-at front rest q (sym (c .long))),
-  ap (drop q) (c .is) ∙ drop-at front rest q (sym (c .long))
+  ap (drop q) (c .is) ∙ drop-at front rest q (sym (c .long)),
 )
 
 -- what stands at a fault
@@ -116,12 +122,11 @@ at-fault k s sound e q long (inr h) =
     let rest = drop (length (joined found)) s in
     let m = whole-at (k .width) sound t us (subst (Statements (k .width)) (h .1 .2) (all .whole)) in
     let cut : s ≡ joined sound ++ (t ++ (joined us ++ rest)) =
-        all .front ∙ ap (λ j. j ++ rest) (ap joined (h .1 .2) ∙ joined-append sound (t ∷ us)) ∙ simp append-assoc in
-    let c = taken (record { is = cut; long = long }) in
-    (
+    all .front ∙ ap (λ j. j ++ rest) (ap joined (h .1 .2) ∙ joined-append sound (t ∷ us)) ∙ simp append-assoc in
+    let c = taken (record { is = cut; long = long }) in (
       c .0,
       c .1,
-      inr (h .0, (t, next-first (k .width) q s (c .0) ∙ ap (firstOf (k .width)) (c .2) ∙ first-joined (k .width) t (joined us ++ rest) (m .0) (m .1), h .1 .3))
+      inr (h .0, (t, next-first (k .width) q s (c .0) ∙ ap (firstOf (k .width)) (c .2) ∙ first-joined (k .width) t (joined us ++ rest) (m .0) (m .1), h .1 .3)),
     )
 
 pub accounts : (k : Kind) (s : List ℕ) → Accounts k s

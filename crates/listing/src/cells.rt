@@ -37,7 +37,11 @@ pub fn push_cell(out: &mut Vec<u8>, heap: Global, cell: Option<usize>) -> Result
 }
 
 // Cells, each behind a semicolon.
-pub fn push_cells(out: &mut Vec<u8>, heap: Global, cells: &[Option<usize>]) -> Result<(), AllocError>
+pub fn push_cells(
+    out: &mut Vec<u8>,
+    heap: Global,
+    cells: &[Option<usize>],
+) -> Result<(), AllocError>
     ensures { λ r. ⌜ made r (λ _. vec-items (now (out .exit)) ≡ vec-items (now (out .entry)) ++ following (map textOf (now (cells .entry)))) ⌝ }
 {
     for cell in cells {

@@ -3,13 +3,13 @@ ghost use Rattle.std.specs.Vec.{made};
 ghost use Rattle.listing.specs.Rows.{kindOf};
 ghost use Rattle.listing.specs.Lists.{listOf};
 ghost use Rattle.listing.specs.Records.{listedOf};
-use std::alloc::AllocError;
-use std::alloc::Global;
-use common::Refusal;
-use entry::Entry;
-use wire::next;
 use crate::listing::Listing;
 use crate::rows::push_row;
+use common::Refusal;
+use entry::Entry;
+use std::alloc::AllocError;
+use std::alloc::Global;
+use wire::next;
 
 // Lists the statements of a frame.
 pub fn list<K: Entry>(heap: Global, frame: &[u8]) -> Result<Listing, AllocError>

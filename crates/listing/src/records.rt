@@ -6,12 +6,12 @@ ghost use Rattle.std.specs.Vec.{made};
 ghost use Rattle.listing.specs.Rows.{kindOf};
 ghost use Rattle.listing.specs.Lists.{Accounts};
 ghost use Rattle.listing.specs.Records.{noteOf, headingOf, faultOf, recordOf};
-use std::alloc::AllocError;
-use std::alloc::Global;
-use common::Refusal;
-use entry::Entry;
 use crate::cells::push_cell;
 use crate::lists::list;
+use common::Refusal;
+use entry::Entry;
+use std::alloc::AllocError;
+use std::alloc::Global;
 
 // The record of a frame.
 pub fn record<K: Entry>(heap: Global, frame: &[u8]) -> Result<Vec<u8>, AllocError>
@@ -34,7 +34,13 @@ fn assembled<K: Entry>(heap: Global, frame: &[u8]) -> Result<Vec<u8>, AllocError
 }
 
 // A row of a word and two numbers.
-fn push_note(out: &mut Vec<u8>, heap: Global, word: &[u8], a: usize, b: usize) -> Result<(), AllocError>
+fn push_note(
+    out: &mut Vec<u8>,
+    heap: Global,
+    word: &[u8],
+    a: usize,
+    b: usize,
+) -> Result<(), AllocError>
     ensures { λ r. ⌜ made r (λ _. vec-items (now (out .exit)) ≡ vec-items (now (out .entry)) ++ noteOf (now (word .entry)) a b) ⌝ }
 {
     out.extend_from_slice(word)?;
@@ -53,7 +59,11 @@ fn push_heading<K: Entry>(out: &mut Vec<u8>) -> Result<(), AllocError>
     Ok(())
 }
 
-fn push_fault(out: &mut Vec<u8>, heap: Global, fault: Option<(Refusal, usize)>) -> Result<(), AllocError>
+fn push_fault(
+    out: &mut Vec<u8>,
+    heap: Global,
+    fault: Option<(Refusal, usize)>,
+) -> Result<(), AllocError>
     ensures { λ r. ⌜ made r (λ _. vec-items (now (out .exit)) ≡ vec-items (now (out .entry)) ++ faultOf fault) ⌝ }
 {
     let Some((refusal, place)) = fault else {

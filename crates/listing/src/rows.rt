@@ -10,16 +10,16 @@ ghost use Rattle.std.specs.Vec.{made};
 ghost use Rattle.wire.specs.Statements.{messageOf, itemIn};
 ghost use Rattle.listing.specs.Rows.{kindOf, saysOf, operandsOf, breadthOf, numbersOf, padded, textOf, following, rowOf};
 ghost use Rattle.listing.specs.Lists.{itemRead, partRow, added};
-use std::alloc::AllocError;
-use std::alloc::Global;
-use entry::Entry;
-use wire::Letter;
-use wire::parse;
-use wire::Statement;
 use crate::cells::push_cell;
 use crate::cells::push_cells;
 use crate::cells::push_number;
 use crate::cells::push_word;
+use entry::Entry;
+use std::alloc::AllocError;
+use std::alloc::Global;
+use wire::Letter;
+use wire::Statement;
+use wire::parse;
 
 // What a letter says, in a word.
 pub fn says<'a>(letter: Letter) -> &'a [u8]
@@ -42,27 +42,43 @@ pub fn operands(s: Statement<'_>) -> [Option<usize>; 6]
     ensures { λ r. ⌜ r ≡ operandsOf (messageOf (s .entry)) ⌝ }
 {
     match s {
-        Statement::Send { slot, item: _ } => [None, Some(usize::from(slot)), None, None, None, None],
-        Statement::Echo { queue, slot, item: _ } => in_slot(queue, slot),
-        Statement::Ready { queue, slot, item: _ } => in_slot(queue, slot),
-        Statement::Have { queue, slot, item: _ } => in_slot(queue, slot),
-        Statement::Value { epoch, round, bit } => in_round(epoch, round, Some(usize::from(bit)), None),
-        Statement::Seen { epoch, round, bit } => in_round(epoch, round, Some(usize::from(bit)), None),
-        Statement::Confirm { epoch, round, set } => in_round(epoch, round, None, Some(usize::from(set))),
-        Statement::Finish { epoch, bit } => [None, None, Some(usize::from(epoch)), None, Some(usize::from(bit)), None],
+        Statement::Send { slot, .. } => in_slot(None, slot),
+        Statement::Echo { queue, slot, .. } => in_slot(Some(queue), slot),
+        Statement::Ready { queue, slot, .. } => in_slot(Some(queue), slot),
+        Statement::Have { queue, slot, .. } => in_slot(Some(queue), slot),
+        Statement::Value { epoch, round, bit } => in_epoch(epoch, Some(round), Some(bit), None),
+        Statement::Seen { epoch, round, bit } => in_epoch(epoch, Some(round), Some(bit), None),
+        Statement::Confirm { epoch, round, set } => in_epoch(epoch, Some(round), None, Some(set)),
+        Statement::Finish { epoch, bit } => in_epoch(epoch, None, Some(bit), None),
     }
 }
 
-fn in_slot(queue: u8, slot: u8) -> [Option<usize>; 6]
-    ensures { λ r. ⌜ r ≡ Some queue ∷ Some slot ∷ None ∷ None ∷ None ∷ None ∷ [] ⌝ }
+fn in_slot(queue: Option<u8>, slot: u8) -> [Option<usize>; 6]
+    ensures { λ r. ⌜ r ≡ queue ∷ Some slot ∷ None ∷ None ∷ None ∷ None ∷ [] ⌝ }
 {
-    [Some(usize::from(queue)), Some(usize::from(slot)), None, None, None, None]
+    [wide(queue), wide(Some(slot)), None, None, None, None]
 }
 
-fn in_round(epoch: u16, round: u8, bit: Option<usize>, set: Option<usize>) -> [Option<usize>; 6]
-    ensures { λ r. ⌜ r ≡ None ∷ None ∷ Some epoch ∷ Some round ∷ bit ∷ set ∷ [] ⌝ }
+fn in_epoch(epoch: u16, round: Option<u8>, bit: Option<u8>, set: Option<u8>) -> [Option<usize>; 6]
+    ensures { λ r. ⌜ r ≡ None ∷ None ∷ Some epoch ∷ round ∷ bit ∷ set ∷ [] ⌝ }
 {
-    [None, None, Some(usize::from(epoch)), Some(usize::from(round)), bit, set]
+    [
+        None,
+        None,
+        Some(usize::from(epoch)),
+        wide(round),
+        wide(bit),
+        wide(set),
+    ]
+}
+
+fn wide(operand: Option<u8>) -> Option<usize>
+    ensures { λ r. ⌜ r ≡ operand ⌝ }
+{
+    match operand {
+        Some(n) => Some(usize::from(n)),
+        None => None,
+    }
 }
 
 // How many columns a kind has.
@@ -80,7 +96,11 @@ pub fn breadth<K: Entry>() -> usize
 }
 
 // The columns of an entry, each behind a semicolon, or as many empty ones.
-fn push_columns<K: Entry>(out: &mut Vec<u8>, heap: Global, entry: Option<K>) -> Result<(), AllocError>
+fn push_columns<K: Entry>(
+    out: &mut Vec<u8>,
+    heap: Global,
+    entry: Option<K>,
+) -> Result<(), AllocError>
     ensures { λ r. ⌜ made r (λ _. vec-items (now (out .exit)) ≡ vec-items (now (out .entry)) ++ following (map textOf (padded (breadthOf heading) (numbersOf columns (mapped bytes entry))))) ⌝ }
 {
     for i in 0..breadth::<K>() {
@@ -102,7 +122,12 @@ fn column<K: Entry>(entry: &Option<K>, i: usize) -> Option<usize>
 }
 
 // The row of one statement's bytes, and true; or nothing, and false, where they hold no entry of the kind.
-pub fn push_row<K: Entry>(out: &mut Vec<u8>, heap: Global, place: usize, part: &[u8]) -> Result<bool, AllocError>
+pub fn push_row<K: Entry>(
+    out: &mut Vec<u8>,
+    heap: Global,
+    place: usize,
+    part: &[u8],
+) -> Result<bool, AllocError>
     ensures { λ r. ⌜ made r (λ ok. (ok, vec-items (now (out .exit))) ≡ added (partRow (kindOf width valid heading columns) place (now (part .entry))) (vec-items (now (out .entry)))) ⌝ }
 {
     let Ok(s) = parse::<K>(part) else {
@@ -128,7 +153,13 @@ fn read_item<K: Entry>(item: Option<&[u8]>) -> Option<Option<K>>
     }
 }
 
-fn push_statement<K: Entry>(out: &mut Vec<u8>, heap: Global, place: usize, s: Statement<'_>, entry: Option<K>) -> Result<(), AllocError>
+fn push_statement<K: Entry>(
+    out: &mut Vec<u8>,
+    heap: Global,
+    place: usize,
+    s: Statement<'_>,
+    entry: Option<K>,
+) -> Result<(), AllocError>
     requires { ⌜ mapped bytes entry ≡ itemIn (messageOf s) ⌝ }
     ensures { λ r. ⌜ made r (λ _. vec-items (now (out .exit)) ≡ vec-items (now (out .entry)) ++ rowOf (kindOf width valid heading columns) place (messageOf (s .entry))) ⌝ }
 {

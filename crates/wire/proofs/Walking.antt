@@ -87,7 +87,7 @@ one-more w s t k p c =
     let rest = drop (length t) s in
     let js = joined (k .found) in
     let further : drop (length (t ++ js)) s ≡ drop (length js) rest =
-        ap (λ n. drop n s) (length-append t js) ∙ sym (drop-drop (length js) (length t) s) in
+    ap (λ n. drop n s) (length-append t js) ∙ sym (drop-drop (length js) (length t) s) in
     record {
       whole = ((p .says, p .reads), c .whole);
       front = p .cut ∙ ap (λ r. t ++ r) (c .front ∙ ap (λ r. js ++ r) (sym further)) ∙ sym (append-assoc t js (drop (length (t ++ js)) s));

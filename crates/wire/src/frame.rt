@@ -1,8 +1,8 @@
 ghost use mathlib.Core.Path.{_≡_};
 ghost use Rattle.wire.specs.Frames.{nextOf, parts, Walks};
+use crate::letter::Letter;
 use common::Refusal;
 use entry::Entry;
-use crate::letter::Letter;
 
 // The part of a frame, from a place on, that is its next statement, or none at the frame's end.
 pub fn next<K: Entry>(frame: &[u8], place: usize) -> Result<Option<&[u8]>, Refusal>

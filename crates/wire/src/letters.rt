@@ -1,7 +1,7 @@
 ghost use mathlib.Core.Path.{_≡_};
 ghost use Rattle.wire.specs.Letters.{byteOf, letterOf, lengthOf};
-use entry::Entry;
 use crate::letter::Letter;
+use entry::Entry;
 
 impl Letter {
     // The letter that a byte is, if it is one.

@@ -7,10 +7,10 @@ ghost use Rattle.std.specs.declared.option.Option.the-variants.{None};
 ghost use Rattle.wire.specs.Letters.{lengthOf};
 ghost use Rattle.wire.specs.Statements.{messageOf};
 ghost use Rattle.wire.specs.Codec.{readOf, parseOf, parsed, placed, writeOf};
-use common::Refusal;
-use entry::Entry;
 use crate::letter::Letter;
 use crate::statement::Statement;
+use common::Refusal;
+use entry::Entry;
 
 // The one statement that the bytes are; its entry stays a part of them.
 pub fn parse<K: Entry>(s: &[u8]) -> Result<Statement<'_>, Refusal>

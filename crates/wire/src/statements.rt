@@ -11,14 +11,14 @@ impl<'a> Statement<'a> {
         ensures { λ r. ⌜ r ≡ letterIn (messageOf (self .entry)) ⌝ }
     {
         match self {
-            Statement::Send { slot: _, item: _ } => Letter::Send,
-            Statement::Echo { queue: _, slot: _, item: _ } => Letter::Echo,
-            Statement::Ready { queue: _, slot: _, item: _ } => Letter::Ready,
-            Statement::Have { queue: _, slot: _, item: _ } => Letter::Have,
-            Statement::Value { epoch: _, round: _, bit: _ } => Letter::Value,
-            Statement::Seen { epoch: _, round: _, bit: _ } => Letter::Seen,
-            Statement::Confirm { epoch: _, round: _, set: _ } => Letter::Confirm,
-            Statement::Finish { epoch: _, bit: _ } => Letter::Finish,
+            Statement::Send { .. } => Letter::Send,
+            Statement::Echo { .. } => Letter::Echo,
+            Statement::Ready { .. } => Letter::Ready,
+            Statement::Have { .. } => Letter::Have,
+            Statement::Value { .. } => Letter::Value,
+            Statement::Seen { .. } => Letter::Seen,
+            Statement::Confirm { .. } => Letter::Confirm,
+            Statement::Finish { .. } => Letter::Finish,
         }
     }
 
@@ -27,14 +27,14 @@ impl<'a> Statement<'a> {
         ensures { λ r. ⌜ mapped behind r ≡ itemIn (messageOf (self .entry)) ⌝ }
     {
         match self {
-            Statement::Send { slot: _, item } => Some(item),
-            Statement::Echo { queue: _, slot: _, item } => Some(item),
-            Statement::Ready { queue: _, slot: _, item } => Some(item),
-            Statement::Have { queue: _, slot: _, item } => Some(item),
-            Statement::Value { epoch: _, round: _, bit: _ } => None,
-            Statement::Seen { epoch: _, round: _, bit: _ } => None,
-            Statement::Confirm { epoch: _, round: _, set: _ } => None,
-            Statement::Finish { epoch: _, bit: _ } => None,
+            Statement::Send { item, .. } => Some(item),
+            Statement::Echo { item, .. } => Some(item),
+            Statement::Ready { item, .. } => Some(item),
+            Statement::Have { item, .. } => Some(item),
+            Statement::Value { .. } => None,
+            Statement::Seen { .. } => None,
+            Statement::Confirm { .. } => None,
+            Statement::Finish { .. } => None,
         }
     }
 }

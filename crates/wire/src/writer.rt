@@ -6,9 +6,9 @@ ghost use Rattle.std.specs.declared.option.Option.the-variants.{None};
 ghost use Rattle.std.specs.declared.result.Result.the-variants.{Ok};
 ghost use Rattle.wire.specs.Statements.{messageOf};
 ghost use Rattle.wire.specs.Codec.{misfit, oversize, placed, writeOf, parseOf};
+use crate::statement::Statement;
 use common::Refusal;
 use entry::Entry;
-use crate::statement::Statement;
 
 impl Statement<'_> {
     // Writes the statement at the front of `out`, and answers how many bytes it has.
@@ -25,7 +25,11 @@ impl Statement<'_> {
         match self {
             Statement::Send { slot, item } => put_item::<K>(&[b'S', slot], item, out),
             Statement::Echo { queue, slot, item } => put_item::<K>(&[b'E', queue, slot], item, out),
-            Statement::Ready { queue, slot, item } => put_item::<K>(&[b'R', queue, slot], item, out),
+            Statement::Ready { queue, slot, item } => put_item::<K>(
+                &[b'R', queue, slot],
+                item,
+                out,
+            ),
             Statement::Have { queue, slot, item } => put_item::<K>(&[b'H', queue, slot], item, out),
             Statement::Value { epoch, round, bit } => put_vote(b'V', epoch, &[round, bit], out),
             Statement::Seen { epoch, round, bit } => put_vote(b'A', epoch, &[round, bit], out),

@@ -19,8 +19,8 @@ table =
 pub returns : need.returns
 returns c =
     let n = c .args .n in
-    let low : 4 ≤ n = c .if-n-lt-MIN-REPLICAS .left in
-    let high : n ≤ 16 = c .if-n-gt-MAX-REPLICAS .left in
+    let low : 4 ≤ n = omega (arith, c .if-n-lt-MIN-REPLICAS .left) in
+    let high : n ≤ 16 = omega (arith, c .if-n-gt-MAX-REPLICAS .left) in
     let within : n - 4 < 13 = omega arith in
     let is = row table 4 n tt low within in
     let ranged : quorumOf n ≡ Ok (faults n, echoes n) = grind (arith, tells) in

@@ -31,7 +31,7 @@ returns-in-Err g c =
 pub returns-in-rest : need.returns-in-rest
 returns-in-rest g c =
     sym (at-end (kind g) (c .args .frame .now) (c .loop-found .place) (c .loop-found .inv .0) (vec-items (c .loop-found .rows)) (c .loop-found .count)
-        (sym (c .in-Ok .ensures tt .value) ∙ ap (λ o. Ok (mapped now o)) (c .in-rest .is)))
+    (sym (c .in-Ok .ensures tt .value) ∙ ap (λ o. Ok (mapped now o)) (c .in-rest .is)))
     ∙ c .loop-found .inv .2
 
 pub returns-then-not-branch : need.returns-then-not-branch
@@ -58,11 +58,10 @@ loop-found-again g c =
     let place = c .loop-found .place in
     let t = c .in-Some .part .now in
     let next : nextOf (g .K·Entry .width) frame place ≡ Ok (Some t) = sym (c .in-Ok .ensures tt .value) ∙ ap (λ o. Ok (mapped now o)) (c .in-Some .is) in
-    let one = one-row (partRow (kind g) place t) _ _ (vec-items (c .loop-found .rows)) (c .in-Continue-push-row .ensures tt) (c .if-not-branch .left) in
-    (
+    let one = one-row (partRow (kind g) place t) _ _ (vec-items (c .loop-found .rows)) (c .in-Continue-push-row .ensures tt) (c .if-not-branch .left) in (
       within (kind g) frame place (c .loop-found .inv .0) t next,
       omega (arith, c .loop-found .inv .1, piece (kind g) frame place (c .loop-found .inv .0) t next .some),
       ap (λ rows. behind rows (c .loop-found .count + 1) (rest (kind g) frame (place + length t))) (one .2)
-      ∙ sym (at-row (kind g) frame place (c .loop-found .inv .0) (vec-items (c .loop-found .rows)) (c .loop-found .count) t (one .0) next (one .1))
-      ∙ c .loop-found .inv .2,
+          ∙ sym (at-row (kind g) frame place (c .loop-found .inv .0) (vec-items (c .loop-found .rows)) (c .loop-found .count) t (one .0) next (one .1))
+          ∙ c .loop-found .inv .2,
     )

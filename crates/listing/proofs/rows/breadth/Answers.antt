@@ -23,14 +23,14 @@ loop-b-again g c =
     let b = getD names i 0 in
     let more : ℕ → ℕ = λ k. k + 1 in
     elim (c .if-b-eq59 .came) [
-      then-b-eq59 w ↦
-      let e : b ≡ 59 = w .if-b-eq59 .taken in
-      let yes : eqb 59 b ≡ true = grind (arith, tells) in
-      (omega (arith, w .n-is, c .loop-b .inv .0), w .n-is ∙ omega (arith, c .loop-b .inv .1, countBy-more-yes (eqb 59) names i 0 (c .loop-b-test .taken) yes))
-    | else-b-eq59 w ↦
-      let e : b ≡ 59 → ⊥ = w .if-b-eq59 .left in
-      let none : eqb 59 b ≡ false = grind (arith, tells) in
-      (omega (arith, w .n-is, c .loop-b .inv .0), w .n-is ∙ omega (arith, c .loop-b .inv .1, countBy-more-no (eqb 59) names i 0 (c .loop-b-test .taken) none))
+      | then-b-eq59 w ↦
+          let e : b ≡ 59 = w .if-b-eq59 .taken in
+          let yes : eqb 59 b ≡ true = grind (arith, tells) in
+          (omega (arith, w .n-is, c .loop-b .inv .0), w .n-is ∙ omega (arith, c .loop-b .inv .1, countBy-more-yes (eqb 59) names i 0 (c .loop-b-test .taken) yes))
+      | else-b-eq59 w ↦
+          let e : b ≡ 59 → ⊥ = w .if-b-eq59 .left in
+          let none : eqb 59 b ≡ false = grind (arith, tells) in
+          (omega (arith, w .n-is, c .loop-b .inv .0), w .n-is ∙ omega (arith, c .loop-b .inv .1, countBy-more-no (eqb 59) names i 0 (c .loop-b-test .taken) none))
     ]
 
 pub returns : need.returns
