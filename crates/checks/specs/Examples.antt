@@ -3,7 +3,7 @@ use Prim.Native.Nat.{ℕ}
 use mathlib.Core.List.{List, [], _∷_}
 use mathlib.Core.Path.{_≡_}
 use Rattle.std.specs.declared.result.Result.{Result}
-use Rattle.std.specs.declared.result.Result.the-variants.{Ok, Err}
+use Rattle.std.specs.declared.result.Result.the-variants.{Ok}
 use Rattle.common.specs.Quorums.{quorumOf}
 use Rattle.common.specs.declared.refusal.Refusal.{Refusal}
 use Rattle.wire.specs.Codec.{parseOf, writeOf}

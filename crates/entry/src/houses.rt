@@ -1,6 +1,5 @@
 ghost use mathlib.Core.Path.{_≡_};
 ghost use mathlib.Core.Bool.{false};
-ghost use Prim.Native.Nat.{_+_, _*_};
 ghost use Rattle.std.specs.Options.{Cases};
 ghost use Rattle.entry.specs.Numbers.{within};
 use crate::house::House;

@@ -1,9 +1,9 @@
 -- The rows of a list account for each byte of the frame up to its fault.
 use mathlib.Core.Path.{_≡_, refl, ap, sym, _∙_, subst}
-use mathlib.Core.List.{List, [], _∷_, _++_, append-assoc, append-nil}
+use mathlib.Core.List.{List, [], _∷_, _++_, append-assoc}
 use mathlib.Core.Logic.{_⊎_, inl, inr}
 use Prim.Native.Nat.{ℕ, _+_, _≤_}
-use native.Mathlib.Nat.{add-zero, zero-add, add-assoc}
+use native.Mathlib.Nat.{zero-add}
 use native.Mathlib.Omega.{arith}
 use lib.ListN.{length, take, drop, length-append}
 use Rattle.std.proofs.shelf.Lists.{take-at, drop-at}
@@ -14,10 +14,10 @@ use Rattle.common.specs.declared.refusal.Refusal.{Refusal}
 use Rattle.common.specs.declared.refusal.Refusal.the-variants as refusals
 use Rattle.wire.specs.Statements.{Message}
 use Rattle.wire.specs.Codec.{parseOf}
-use Rattle.wire.specs.Frames.{firstOf, nextOf, walkOf, joined, Statements, Walks}
+use Rattle.wire.specs.Frames.{firstOf, nextOf, walkOf, joined, Statements}
 use Rattle.wire.proofs.Walking.{first-joined, next-first, walks}
 use Rattle.listing.specs.Rows.{Kind}
-use Rattle.listing.specs.Lists.{partRow, Listed, onto, listFrom, listOf, Rows, Accounts}
+use Rattle.listing.specs.Lists.{partRow, Listed, onto, listFrom, Rows, Accounts}
 
 -- why a list ends at a fault: the walk stopped there, or the statement there is not sound
 abbrev Why : Kind → ℕ → List (List ℕ) → List (List ℕ) → Option Refusal → Refusal → Type 0

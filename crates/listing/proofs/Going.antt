@@ -1,8 +1,8 @@
 -- The list of a frame, one statement after the other.
 use mathlib.Core.Path.{_≡_, refl, ap, sym, _∙_}
 use mathlib.Core.Bool.{Bool, true, false}
-use mathlib.Core.List.{List, [], _∷_, _++_, append-assoc, append-nil}
-use Prim.Native.Nat.{ℕ, _+_, _≤_, _<_}
+use mathlib.Core.List.{List, [], _++_, append-assoc, append-nil}
+use Prim.Native.Nat.{ℕ, _+_, _≤_}
 use native.Mathlib.Nat.{add-zero, zero-add, add-assoc}
 use native.Mathlib.Omega.{arith}
 use lib.ListN.{length, drop, length-drop, length-append}
@@ -13,8 +13,8 @@ use Rattle.std.specs.declared.result.Result.{Result}
 use Rattle.std.specs.declared.result.Result.the-variants.{Ok, Err}
 use Rattle.common.specs.declared.refusal.Refusal.{Refusal}
 use Rattle.common.specs.declared.refusal.Refusal.the-variants as refusals
-use Rattle.wire.specs.Frames.{firstOf, nextOf, Walk, onward, walkOf}
-use Rattle.wire.proofs.Walking.{Piece, first-piece, next-first, shorter, walk-first}
+use Rattle.wire.specs.Frames.{nextOf, Walk, onward, walkOf}
+use Rattle.wire.proofs.Walking.{Piece, first-piece, next-first, walk-first}
 use Rattle.listing.specs.Rows.{Kind}
 use Rattle.listing.specs.Lists.{partRow, added, Listed, onto, listFrom}
 

@@ -14,7 +14,7 @@ use Rattle.common.specs.declared.refusal.Refusal.{Refusal}
 use Rattle.common.specs.declared.refusal.Refusal.the-variants as refusals
 use Rattle.wire.specs.Statements.{Message, itemIn}
 use Rattle.wire.specs.Codec.{parseOf}
-use Rattle.wire.specs.Frames.{nextOf, Walk, walkOf, joined}
+use Rattle.wire.specs.Frames.{nextOf, walkOf, joined}
 use Rattle.listing.specs.Rows.{Kind, rowOf}
 
 -- the entry of a statement, if it has one; nothing where its bytes are no entry

@@ -1,10 +1,9 @@
 ghost use mathlib.Core.Path.{_≡_};
-ghost use mathlib.Core.Bool.{cond};
 ghost use mathlib.Core.List.{[], _∷_, _++_, map};
 ghost use denote.Ref.{now as behind};
 ghost use Rattle.std.specs.declared.option.Option.the-variants.{Some, None};
 ghost use Rattle.std.specs.Of.Vec.{vec-items};
-ghost use Rattle.std.specs.Options.{mapped, Cases};
+ghost use Rattle.std.specs.Options.{mapped};
 ghost use Rattle.std.specs.Runs.{nth};
 ghost use Rattle.std.specs.Vec.{made};
 ghost use Rattle.wire.specs.Statements.{messageOf, itemIn};

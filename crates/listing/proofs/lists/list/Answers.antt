@@ -10,7 +10,7 @@ use Rattle.std.specs.declared.result.Result.the-variants.{Ok}
 use Rattle.common.specs.declared.refusal.Refusal.the-variants as refusals
 use Rattle.wire.specs.Frames.{nextOf}
 use Rattle.listing.specs.Rows.{Kind, kindOf}
-use Rattle.listing.specs.Lists.{partRow, Listed}
+use Rattle.listing.specs.Lists.{partRow}
 use Rattle.listing.proofs.Going.{behind, rest, behind-none, at-end, at-stop, at-none, at-row, within, piece, no-row, one-row}
 use Rattle.listing.proofs.lists.list.Given as given
 use Rattle.listing.proofs.lists.list.Needs as need

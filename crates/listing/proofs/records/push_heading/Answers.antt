@@ -1,5 +1,5 @@
 use mathlib.Core.List.{[], _∷_, _++_, append-assoc}
-use mathlib.Core.Path.{_≡_, _∙_, ap}
+use mathlib.Core.Path.{_∙_, ap}
 use lib.Chars.{codes}
 use Rattle.std.specs.Of.Vec.{vec-items}
 use Rattle.listing.proofs.Growing.{then-more}

@@ -1,9 +1,7 @@
 use mathlib.Core.List.{_++_, _∷_, map}
-use mathlib.Core.Path.{_≡_, _∙_, ap, sym}
-use native.Mathlib.Numerals.{add-one}
+use mathlib.Core.Path.{_∙_, ap, sym}
 use Rattle.std.specs.Of.Vec.{vec-items}
 use Rattle.std.specs.Options.{mapped}
-use Rattle.std.specs.Runs.{nth}
 use Rattle.listing.specs.Rows.{numbersOf, padded, textOf, following}
 use Rattle.listing.proofs.Growing.{then-more, following-padded}
 use Rattle.listing.proofs.rows.push_columns.Needs as need

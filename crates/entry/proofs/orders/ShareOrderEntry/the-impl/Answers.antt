@@ -1,9 +1,9 @@
 use mathlib.Core.Path.{_≡_, ap}
 use mathlib.Core.HLevel.{isProp→PathP, ¬-prop}
-use Prim.Native.Nat.{ℕ, suc, _<_, _^_}
+use Prim.Native.Nat.{suc, _<_, _^_}
 use native.Mathlib.Omega.{arith}
 use Rattle.std.proofs.shelf.Ways.{tells}
-use Rattle.entry.specs.Orders.{fieldsOf, orderBytes}
+use Rattle.entry.specs.Orders.{fieldsOf}
 use Rattle.entry.specs.declared.order.Gift.{Gift}
 use Rattle.entry.specs.declared.order.ShareOrder.{ShareOrder}
 use Rattle.entry.specs.declared.order.ShareOrder.the-variants.{Give, Close}

@@ -1,4 +1,4 @@
-use mathlib.Core.Path.{_≡_, _∙_, sym}
+use mathlib.Core.Path.{_∙_, sym}
 use mathlib.Core.List.{_∷_, []}
 use Prim.Native.Nat.{ℕ, _<_}
 use borrow.Author.Needs.{needs}

@@ -1,6 +1,4 @@
-use mathlib.Core.List.{List}
 use mathlib.Core.Path.{_≡_}
-use Prim.Native.Nat.{ℕ}
 use Rattle.std.specs.declared.result.Result.the-variants.{Ok}
 use Rattle.wire.specs.Statements.{messageOf, bytesOf}
 use Rattle.wire.specs.Codec.{parseOf, unfit}
