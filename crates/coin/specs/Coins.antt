@@ -7,6 +7,7 @@ use lib.ListN.{length, getD}
 use Rattle.std.specs.declared.result.Result.{Result}
 use Rattle.std.specs.declared.result.Result.the-variants.{Ok, Err}
 use Rattle.common.specs.Limits.{epochs}
+use Rattle.common.specs.Refusals.{declined}
 use Rattle.common.specs.declared.refusal.Refusal.{Refusal}
 use Rattle.common.specs.declared.refusal.Refusal.the-variants as refusals
 use Rattle.coin.specs.declared.sheet.Sheet.{Sheet}
@@ -20,10 +21,10 @@ abbrev pub sheetOf : Sheet → ℕ → ℕ → Bool
 sheetOf s e r = eqb (getD (s .dealt) (2 * e + r / 8) 0 / 2 ^ (r % 8) % 2) 1
 
 -- two bytes for each epoch make a sheet
-abbrev pub dealOf : List ℕ → Result (List ℕ) Refusal
-dealOf bytes = cond (eqb (length bytes) (2 * epochs)) (Ok bytes) (Err refusals.Sheet)
+abbrev pub dealOf : List ℕ → Result (List ℕ) ℕ
+dealOf bytes = cond (eqb (length bytes) (2 * epochs)) (Ok bytes) (declined refusals.Sheet)
 
 -- an answer of `deal`, by the bytes
-abbrev pub dealtOf : Result Sheet Refusal → Result (List ℕ) Refusal
+abbrev pub dealtOf : Result Sheet Refusal → Result (List ℕ) ℕ
 dealtOf (Ok s) = Ok (s .dealt)
-dealtOf (Err e) = Err e
+dealtOf (Err e) = declined e

@@ -43,5 +43,5 @@ row t least n ok low within =
     let b = eqb→eq (p .1) (echoes n) (and-right _ _ both) in
     λ i. (a i, b i)
 
-pub sound : (n : ℕ) → 4 ≤ n → Sound n (faults n, echoes n)
+pub sound : (n : ℕ) → 1 ≤ n → Sound n (faults n, echoes n)
 sound n h = record { few = omega arith; shared = omega arith; reached = omega arith }

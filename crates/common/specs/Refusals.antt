@@ -1,5 +1,7 @@
--- The number of each refusal.
+-- The number of each refusal, and answers by their numbers.
 use Prim.Native.Nat.{ℕ}
+use Rattle.std.specs.declared.result.Result.{Result}
+use Rattle.std.specs.declared.result.Result.the-variants.{Ok, Err}
 use Rattle.common.specs.declared.refusal.Refusal.{Refusal}
 use Rattle.common.specs.declared.refusal.Refusal.the-variants.{Boxes, Own, Slots, Table, Place, Letter, Short, Sender, Long, Range, Entry, Past, Future, Held, Other, Full, Booked, Over, Begun, Number, Room, Page, File, Sheet}
 
@@ -28,3 +30,12 @@ numberOf Room = 21
 numberOf Page = 22
 numberOf File = 23
 numberOf Sheet = 24
+
+-- a call declines, marked as such, with the refusal's number
+abbrev pub declined : {A : Type 0} → Refusal → Result A ℕ
+declined e = Err (numberOf e)
+
+-- what a call answers
+abbrev pub numbered : {A : Type 0} → Result A Refusal → Result A ℕ
+numbered (Ok x) = Ok x
+numbered (Err e) = declined e

@@ -1,5 +1,5 @@
 // Common ground of every crate: the numbered refusals, the limits of a set of replicas, and the quorum
-// table. A refusal's number is part of every format, so it is given here once and by nothing else.
+// table. A refusal's number is given here once and by nothing else.
 // No entries, no bytes and no state live here.
 mod limits;
 mod quorums;

@@ -1,5 +1,6 @@
 ghost use mathlib.Core.Path.{_≡_};
 ghost use Rattle.common.specs.Quorums.{quorumOf, Sound};
+ghost use Rattle.common.specs.Refusals.{numbered};
 ghost use Rattle.std.specs.Vec.{made};
 use crate::limits::MAX_REPLICAS;
 use crate::limits::MIN_REPLICAS;
@@ -24,7 +25,7 @@ const TABLE: [(u8, u8); 13] = [
 
 // The faults f and the echo quorum Q of a set of n replicas.
 pub fn quorum(n: u8) -> Result<(u8, u8), Refusal>
-    ensures value { λ r. ⌜ r ≡ quorumOf n ⌝ }
+    ensures value { λ r. ⌜ numbered r ≡ quorumOf n ⌝ }
     ensures sound { λ r. ⌜ made r (Sound n) ⌝ }
 {
     if n < MIN_REPLICAS || n > MAX_REPLICAS {

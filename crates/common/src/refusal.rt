@@ -1,5 +1,5 @@
 // Why a call declines.
-#[derive(Clone, Copy, PartialEq, Eq, Debug)]
+#[derive(Clone, Copy)]
 pub enum Refusal {
     // make
     Boxes,

@@ -2,12 +2,11 @@ ghost use mathlib.Core.Path.{_≡_};
 ghost use mathlib.Core.List.{List, _++_};
 ghost use mathlib.Core.Bool.{Bool, true, false};
 ghost use Prim.Native.Nat.{ℕ, _+_, _<_, _≤_};
-ghost use lib.Dec.{eqb};
 ghost use lib.ListN.{length, drop, getD};
 ghost use Rattle.std.specs.Options.{Cases};
 ghost use Rattle.std.specs.Orderings.{When};
 ghost use Rattle.std.specs.Runs.{nth};
-ghost use Rattle.std.specs.shelf.Lists.{countBy};
+ghost use Rattle.entry.specs.Columns.{breadthOf};
 ghost use Rattle.std.specs.declared.option.Option.the-variants.{Some};
 
 // A kind of entry.
@@ -45,7 +44,7 @@ pub trait Entry: Copy {
     law brief: { length heading < 256 };
 
     // as many columns as names
-    law matched: { (s : List ℕ) → valid s ≡ true → length (columns s) ≡ countBy (eqb 59) heading + 1 };
+    law matched: { (s : List ℕ) → valid s ≡ true → length (columns s) ≡ breadthOf heading };
 
     // WIDTH, as a number that generic code knows.
     fn size() -> usize

@@ -10,7 +10,7 @@ use Rattle.std.proofs.shelf.Lists.{take-at, drop-at}
 use Rattle.std.specs.declared.option.Option.{Option}
 use Rattle.std.specs.declared.option.Option.the-variants.{Some, None}
 use Rattle.std.specs.declared.result.Result.the-variants.{Ok, Err}
-use Rattle.common.specs.declared.refusal.Refusal.{Refusal}
+use Rattle.common.specs.Refusals.{numberOf}
 use Rattle.common.specs.declared.refusal.Refusal.the-variants as refusals
 use Rattle.wire.specs.Statements.{Message}
 use Rattle.wire.specs.Codec.{parseOf}
@@ -20,30 +20,30 @@ use Rattle.listing.specs.Rows.{Kind}
 use Rattle.listing.specs.Lists.{partRow, Listed, onto, listFrom, Rows, Accounts}
 
 -- why a list ends at a fault: the walk stopped there, or the statement there is not sound
-abbrev Why : Kind → ℕ → List (List ℕ) → List (List ℕ) → Option Refusal → Refusal → Type 0
+abbrev Why : Kind → ℕ → List (List ℕ) → List (List ℕ) → Option ℕ → ℕ → Type 0
 Why k q ts sound stop e =
     ((sound ≡ ts) × (stop ≡ Some e))
-    ⊎ ((e ≡ refusals.Entry) × ((t : List ℕ) × (us : List (List ℕ)) × (ts ≡ sound ++ (t ∷ us)) × (partRow k q t ≡ None)))
+    ⊎ ((e ≡ numberOf refusals.Entry) × ((t : List ℕ) × (us : List (List ℕ)) × (ts ≡ sound ++ (t ∷ us)) × (partRow k q t ≡ None)))
 
 -- which statements of a walk are listed
-record Told (k : Kind) (p : ℕ) (ts : List (List ℕ)) (stop : Option Refusal) (l : Listed) : Type 0 where
+record Told (k : Kind) (p : ℕ) (ts : List (List ℕ)) (stop : Option ℕ) (l : Listed) : Type 0 where
   sound : List (List ℕ)
   rows : Rows k p sound (l .rows)
   count : l .count ≡ length sound
   whole : l .fault ≡ None → (sound ≡ ts) × (stop ≡ None)
-  torn : (e : Refusal) (q : ℕ) → l .fault ≡ Some (e, q) → (q ≡ p + length (joined sound)) × Why k q ts sound stop e
+  torn : (e q : ℕ) → l .fault ≡ Some (e, q) → (q ≡ p + length (joined sound)) × Why k q ts sound stop e
 
-same-fault : (r e : Refusal) (p q : ℕ) → _≡_ {A = Option (Refusal × ℕ)} (Some (r, p)) (Some (e, q)) → (r ≡ e) × (p ≡ q)
+same-fault : (r e p q : ℕ) → _≡_ {A = Option (ℕ × ℕ)} (Some (r, p)) (Some (e, q)) → (r ≡ e) × (p ≡ q)
 same-fault r e p q f =
-    let x : _≡_ {A = Refusal × ℕ} (r, p) (e, q) = cc in
-    (ap (λ (y : Refusal × ℕ). y .0) x, ap (λ (y : Refusal × ℕ). y .1) x)
+    let x : _≡_ {A = ℕ × ℕ} (r, p) (e, q) = cc in
+    (ap (λ (y : ℕ × ℕ). y .0) x, ap (λ (y : ℕ × ℕ). y .1) x)
 
 -- one statement more in front
-before : (k : Kind) (q : ℕ) (t : List ℕ) (ts sound : List (List ℕ)) (stop : Option Refusal) (e : Refusal) → Why k q ts sound stop e → Why k q (t ∷ ts) (t ∷ sound) stop e
+before : (k : Kind) (q : ℕ) (t : List ℕ) (ts sound : List (List ℕ)) (stop : Option ℕ) (e : ℕ) → Why k q ts sound stop e → Why k q (t ∷ ts) (t ∷ sound) stop e
 before k q t ts sound stop e (inl w) = inl (ap (λ us. t ∷ us) (w .0), w .1)
 before k q t ts sound stop e (inr w) = inr (w .0, (w .1 .0, w .1 .1, ap (λ us. t ∷ us) (w .1 .2), w .1 .3))
 
-told : (k : Kind) (p : ℕ) (ts : List (List ℕ)) (stop : Option Refusal) → Told k p ts stop (listFrom k p ts stop)
+told : (k : Kind) (p : ℕ) (ts : List (List ℕ)) (stop : Option ℕ) → Told k p ts stop (listFrom k p ts stop)
 told k p [] None = record {
   sound = [];
   rows = refl;
@@ -68,7 +68,7 @@ told k p (t ∷ ts) stop = by (partRow k p t) refl (told k (p + length t) ts sto
       count = refl;
       whole = λ f. absurd (let z : _≡_ {A = ℕ} 0 1 = cc in omega arith);
       torn = λ r q f.
-          let x = same-fault refusals.Entry r p q f in
+          let x = same-fault (numberOf refusals.Entry) r p q f in
           (omega (arith, x .1), inr (sym (x .0), (t, ts, refl, subst (λ n. partRow k n t ≡ None) (x .1) e)));
     }
     by (Some row) e more = record {
@@ -104,10 +104,10 @@ taken {s} {q} {front} {rest} c = (
 
 -- what stands at a fault
 at-fault :
-    (k : Kind) (s : List ℕ) (sound : List (List ℕ)) (e : Refusal) (q : ℕ) → q ≡ length (joined sound)
+    (k : Kind) (s : List ℕ) (sound : List (List ℕ)) (e q : ℕ) → q ≡ length (joined sound)
     → Why k q (walkOf (k .width) s .found) sound (walkOf (k .width) s .stop) e
     → (q ≤ length s) × (joined sound ≡ take q s)
-    × ((nextOf (k .width) s q ≡ Err e) ⊎ ((e ≡ refusals.Entry) × ((t : List ℕ) × (nextOf (k .width) s q ≡ Ok (Some t)) × (partRow k q t ≡ None))))
+    × ((nextOf (k .width) s q ≡ Err e) ⊎ ((e ≡ numberOf refusals.Entry) × ((t : List ℕ) × (nextOf (k .width) s q ≡ Ok (Some t)) × (partRow k q t ≡ None))))
 at-fault k s sound e q long (inl h) =
     let all = walks (k .width) s in
     let found = walkOf (k .width) s .found in

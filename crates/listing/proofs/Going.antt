@@ -11,7 +11,7 @@ use Rattle.std.specs.declared.option.Option.{Option}
 use Rattle.std.specs.declared.option.Option.the-variants.{Some, None}
 use Rattle.std.specs.declared.result.Result.{Result}
 use Rattle.std.specs.declared.result.Result.the-variants.{Ok, Err}
-use Rattle.common.specs.declared.refusal.Refusal.{Refusal}
+use Rattle.common.specs.Refusals.{numberOf}
 use Rattle.common.specs.declared.refusal.Refusal.the-variants as refusals
 use Rattle.wire.specs.Frames.{nextOf, Walk, onward, walkOf}
 use Rattle.wire.proofs.Walking.{Piece, first-piece, next-first, walk-first}
@@ -34,7 +34,7 @@ pub behind-none : (l : Listed) → behind [] 0 l ≡ l
 behind-none l = λ i. record { rows = l .rows; count = zero-add (l .count) i; fault = l .fault }
 
 module _ (k : Kind) (s : List ℕ) (p : ℕ) (inside : p ≤ length s) where
-  goes : (v : Result (Option (List ℕ)) Refusal) → nextOf (k .width) s p ≡ v → rest k s p ≡ listWalk k p (onward v (λ t. walkOf (k .width) (drop (length t) (drop p s))))
+  goes : (v : Result (Option (List ℕ)) ℕ) → nextOf (k .width) s p ≡ v → rest k s p ≡ listWalk k p (onward v (λ t. walkOf (k .width) (drop (length t) (drop p s))))
   goes v e = ap (listWalk k p) (walk-first (k .width) (drop p s) v (sym (next-first (k .width) p s inside) ∙ e))
 
   pub piece : (t : List ℕ) → nextOf (k .width) s p ≡ Ok (Some t) → Piece (k .width) (drop p s) t
@@ -50,13 +50,13 @@ module _ (k : Kind) (s : List ℕ) (p : ℕ) (inside : p ≤ length s) where
     pub at-end : nextOf (k .width) s p ≡ Ok None → behind rows n (rest k s p) ≡ record { rows = rows; count = n; fault = None }
     at-end e = ap (behind rows n) (goes (Ok None) e) ∙ (λ i. record { rows = append-nil rows i; count = add-zero n i; fault = None })
 
-    pub at-stop : (r : Refusal) → nextOf (k .width) s p ≡ Err r → behind rows n (rest k s p) ≡ record { rows = rows; count = n; fault = Some (r, p) }
+    pub at-stop : (r : ℕ) → nextOf (k .width) s p ≡ Err r → behind rows n (rest k s p) ≡ record { rows = rows; count = n; fault = Some (r, p) }
     at-stop r e = ap (behind rows n) (goes (Err r) e) ∙ (λ i. record { rows = append-nil rows i; count = add-zero n i; fault = Some (r, p) })
 
-    pub at-none : (t : List ℕ) → nextOf (k .width) s p ≡ Ok (Some t) → partRow k p t ≡ None → behind rows n (rest k s p) ≡ record { rows = rows; count = n; fault = Some (refusals.Entry, p) }
+    pub at-none : (t : List ℕ) → nextOf (k .width) s p ≡ Ok (Some t) → partRow k p t ≡ None → behind rows n (rest k s p) ≡ record { rows = rows; count = n; fault = Some (numberOf refusals.Entry, p) }
     at-none t e f =
         ap (behind rows n) (goes (Ok (Some t)) e ∙ ap (λ o. onto o p (listWalk k (p + length t) (walkOf (k .width) (drop (length t) (drop p s))))) f)
-        ∙ (λ i. record { rows = append-nil rows i; count = add-zero n i; fault = Some (refusals.Entry, p) })
+        ∙ (λ i. record { rows = append-nil rows i; count = add-zero n i; fault = Some (numberOf refusals.Entry, p) })
 
     pub at-row : (t row : List ℕ) → nextOf (k .width) s p ≡ Ok (Some t) → partRow k p t ≡ Some row → behind rows n (rest k s p) ≡ behind (rows ++ row) (n + 1) (rest k s (p + length t))
     at-row t row e f =

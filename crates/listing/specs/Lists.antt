@@ -10,7 +10,7 @@ use Rattle.std.specs.declared.option.Option.{Option}
 use Rattle.std.specs.declared.option.Option.the-variants.{Some, None}
 use Rattle.std.specs.declared.result.Result.{Result}
 use Rattle.std.specs.declared.result.Result.the-variants.{Ok, Err}
-use Rattle.common.specs.declared.refusal.Refusal.{Refusal}
+use Rattle.common.specs.Refusals.{numberOf}
 use Rattle.common.specs.declared.refusal.Refusal.the-variants as refusals
 use Rattle.wire.specs.Statements.{Message, itemIn}
 use Rattle.wire.specs.Codec.{parseOf}
@@ -23,7 +23,7 @@ itemRead valid None = Some None
 itemRead valid (Some x) = cond (valid x) (Some (Some x)) None
 
 -- the row of one statement's bytes, if they are one and its entry is of the kind
-abbrev pub messageRow : Kind → ℕ → Result Message Refusal → Option (List ℕ)
+abbrev pub messageRow : Kind → ℕ → Result Message ℕ → Option (List ℕ)
 messageRow k p (Ok m) = mapped (λ _. rowOf k p m) (itemRead (k .valid) (itemIn m))
 messageRow k p (Err e) = None
 
@@ -35,18 +35,19 @@ abbrev pub added : Option (List ℕ) → List ℕ → Bool × List ℕ
 added None rows = (false, rows)
 added (Some row) rows = (true, rows ++ row)
 
--- the rows of the sound statements, how many they are, and why and where no more follow, if that is no end
+-- the rows of the sound statements, how many they are, and the refusal's number and the place where no more follow,
+-- if that is no end
 pub record Listed : Type 0 where
   pub rows : List ℕ
   pub count : ℕ
-  pub fault : Option (Refusal × ℕ)
+  pub fault : Option (ℕ × ℕ)
 
 abbrev pub onto : Option (List ℕ) → ℕ → Listed → Listed
-onto None p more = record { rows = []; count = 0; fault = Some (refusals.Entry, p) }
+onto None p more = record { rows = []; count = 0; fault = Some (numberOf refusals.Entry, p) }
 onto (Some row) p more = record { rows = row ++ more .rows; count = 1 + more .count; fault = more .fault }
 
 -- the statements of a walk that begins at the place p
-abbrev pub listFrom : Kind → ℕ → List (List ℕ) → Option Refusal → Listed
+abbrev pub listFrom : Kind → ℕ → List (List ℕ) → Option ℕ → Listed
 listFrom k p [] stop = record { rows = []; count = 0; fault = mapped (λ e. (e, p)) stop }
 listFrom k p (t ∷ ts) stop = onto (partRow k p t) p (listFrom k (p + length t) ts stop)
 
@@ -66,6 +67,6 @@ pub record Accounts (k : Kind) (s : List ℕ) : Type 0 where
   pub count : listOf k s .count ≡ length sound
   pub whole : listOf k s .fault ≡ None → s ≡ joined sound
   pub torn :
-      (e : Refusal) (p : ℕ) → listOf k s .fault ≡ Some (e, p)
+      (e p : ℕ) → listOf k s .fault ≡ Some (e, p)
       → (p ≤ length s) × (joined sound ≡ take p s)
-      × ((nextOf (k .width) s p ≡ Err e) ⊎ ((e ≡ refusals.Entry) × ((t : List ℕ) × (nextOf (k .width) s p ≡ Ok (Some t)) × (partRow k p t ≡ None))))
+      × ((nextOf (k .width) s p ≡ Err e) ⊎ ((e ≡ numberOf refusals.Entry) × ((t : List ℕ) × (nextOf (k .width) s p ≡ Ok (Some t)) × (partRow k p t ≡ None))))

@@ -1,14 +1,13 @@
 -- A statement as a row of a table.
-use Prim.Native.Nat.{ℕ, zero, suc, _+_}
+use Prim.Native.Nat.{ℕ, zero, suc}
 use mathlib.Core.Bool.{Bool}
 use mathlib.Core.List.{List, [], _∷_, _++_, map}
 use lib.Chars.{codes}
-use lib.Dec.{eqb}
 use Rattle.std.specs.Runs.{nth}
 use Rattle.std.specs.Written.{decimal}
-use Rattle.std.specs.shelf.Lists.{countBy}
 use Rattle.std.specs.declared.option.Option.{Option}
 use Rattle.std.specs.declared.option.Option.the-variants.{Some, None}
+use Rattle.entry.specs.Columns.{breadthOf}
 use Rattle.wire.specs.Letters.{byteOf}
 use Rattle.wire.specs.Statements.{Message, send, echo, ready, have, value, seen, confirm, finish, letterIn, itemIn}
 use Rattle.wire.specs.declared.letter.Letter.{Letter}
@@ -45,10 +44,7 @@ operandsOf (seen e r b) = None ∷ None ∷ Some e ∷ Some r ∷ Some b ∷ Non
 operandsOf (confirm e r u) = None ∷ None ∷ Some e ∷ Some r ∷ None ∷ Some u ∷ []
 operandsOf (finish e b) = None ∷ None ∷ Some e ∷ None ∷ Some b ∷ None ∷ []
 
--- as many columns as there are names
-abbrev pub breadthOf : List ℕ → ℕ
-breadthOf heading = countBy (eqb 59) heading + 1
-
+-- the numbers of a statement's columns
 abbrev pub numbersOf : (List ℕ → List ℕ) → Option (List ℕ) → List ℕ
 numbersOf columns None = []
 numbersOf columns (Some x) = columns x

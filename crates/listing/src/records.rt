@@ -4,7 +4,7 @@ ghost use Rattle.std.specs.Of.Vec.{vec-items};
 ghost use Rattle.std.specs.Vec.{made};
 ghost use Rattle.listing.specs.Rows.{kindOf};
 ghost use Rattle.listing.specs.Lists.{Accounts};
-ghost use Rattle.listing.specs.Records.{noteOf, headingOf, faultOf, recordOf};
+ghost use Rattle.listing.specs.Records.{noteOf, headingOf, faultIn, faultOf, recordOf};
 use crate::cells::push_cell;
 use crate::lists::list;
 use common::Refusal;
@@ -63,7 +63,7 @@ fn push_fault(
     heap: Global,
     fault: Option<(Refusal, usize)>,
 ) -> Result<(), AllocError>
-    ensures { λ r. ⌜ made r (λ _. vec-items (now (out .exit)) ≡ vec-items (now (out .entry)) ++ faultOf fault) ⌝ }
+    ensures { λ r. ⌜ made r (λ _. vec-items (now (out .exit)) ≡ vec-items (now (out .entry)) ++ faultOf (faultIn fault)) ⌝ }
 {
     let Some((refusal, place)) = fault else {
         return Ok(());

@@ -18,12 +18,13 @@ use Rattle.std.specs.declared.option.Option.{Option}
 use Rattle.std.specs.declared.option.Option.the-variants.{Some, None}
 use Rattle.std.specs.declared.result.Result.{Result}
 use Rattle.std.specs.declared.result.Result.the-variants.{Ok, Err}
+use Rattle.common.specs.Refusals.{declined, numbered}
 use Rattle.common.specs.declared.refusal.Refusal.{Refusal}
 use Rattle.common.specs.declared.refusal.Refusal.the-variants as refusals
 use Rattle.wire.specs.Codec.{placed}
 
 module _ (head tail out : List ℕ) where
-  pub no-room : length out < length head + length tail → (Err refusals.Room, out) ≡ placed None (head ++ tail) out
+  pub no-room : length out < length head + length tail → (declined refusals.Room, out) ≡ placed None (head ++ tail) out
   no-room h =
       let n : length (head ++ tail) ≡ length head + length tail = length-append head tail in
       let a : ltb (length out) (length (head ++ tail)) ≡ true = grind (arith, tells) in
@@ -48,18 +49,18 @@ module _ (head tail out : List ℕ) where
 
 -- what was placed stands at the front
 pub placed-front :
-    (P : List ℕ → Type 0) (o : Option Refusal) (bs out last : List ℕ) (r : Result ℕ Refusal)
-    → (r, last) ≡ placed o bs out → (o ≡ None → P bs) → made r (λ n. P (take n last))
+    (P : List ℕ → Type 0) (o : Option ℕ) (bs out last : List ℕ) (r : Result ℕ Refusal)
+    → (numbered r, last) ≡ placed o bs out → (o ≡ None → P bs) → made r (λ n. P (take n last))
 placed-front P o bs out last (Err e) is has = tt
-placed-front P (Some e) bs out last (Ok n) is has = absurd (let f = ap (λ (p : Result ℕ Refusal × List ℕ). p .0) is in let z : _≡_ {A = ℕ} 0 1 = cc in omega arith)
+placed-front P (Some e) bs out last (Ok n) is has = absurd (let f = ap (λ (p : Result ℕ ℕ × List ℕ). p .0) is in let z : _≡_ {A = ℕ} 0 1 = cc in omega arith)
 placed-front P None bs out last (Ok n) is has = by (ltb (length out) (length bs)) refl
   where
     by : (t : Bool) → ltb (length out) (length bs) ≡ t → P (take n last)
-    by true t = absurd (let f = ap (λ (p : Result ℕ Refusal × List ℕ). p .0) (rw t at is) in let z : _≡_ {A = ℕ} 0 1 = cc in omega arith)
+    by true t = absurd (let f = ap (λ (p : Result ℕ ℕ × List ℕ). p .0) (rw t at is) in let z : _≡_ {A = ℕ} 0 1 = cc in omega arith)
     by false t =
         let f = rw t at is in
-        let a : Ok n ≡ Ok (length bs) = ap (λ (p : Result ℕ Refusal × List ℕ). p .0) f in
+        let a : Ok n ≡ Ok (length bs) = ap (λ (p : Result ℕ ℕ × List ℕ). p .0) f in
         let m : n ≡ length bs = cc in
-        let l : last ≡ bs ++ drop (length bs) out = ap (λ (p : Result ℕ Refusal × List ℕ). p .1) f in
+        let l : last ≡ bs ++ drop (length bs) out = ap (λ (p : Result ℕ ℕ × List ℕ). p .1) f in
         let front : take n last ≡ bs = (λ i. take (m i) (l i)) ∙ take-at bs (drop (length bs) out) (length bs) refl in
         rw front (has refl)

@@ -11,6 +11,7 @@ use Rattle.std.proofs.shelf.Ways.{tells}
 use Rattle.std.specs.declared.option.Option.{Option}
 use Rattle.std.specs.declared.option.Option.the-variants.{Some, None}
 use Rattle.std.specs.declared.result.Result.the-variants.{Ok, Err}
+use Rattle.common.specs.Refusals.{declined}
 use Rattle.common.specs.declared.refusal.Refusal.the-variants as refusals
 use Rattle.entry.proofs.Bytes.{fronted, spelled}
 use Rattle.wire.specs.Letters.{byteOf, letterOf, lengthOf}
@@ -68,7 +69,7 @@ read-of w (b ∷ s) m e = by-letter (letterOf b) refl
     by-letter None is = let f : Err _ ≡ Ok m = sym (ap (wholeOf w (b ∷ s)) is) ∙ e in absurd (let z : _≡_ {A = ℕ} 0 1 = cc in omega arith)
     by-letter (Some l) is = by-length (ltb (length (b ∷ s)) (lengthOf w l)) (ltb (lengthOf w l) (length (b ∷ s))) refl refl
       where
-        whole : cond (ltb (length (b ∷ s)) (lengthOf w l)) (Err refusals.Short) (cond (ltb (lengthOf w l) (length (b ∷ s))) (Err refusals.Long) (Ok (readOf l (b ∷ s)))) ≡ Ok m
+        whole : cond (ltb (length (b ∷ s)) (lengthOf w l)) (declined refusals.Short) (cond (ltb (lengthOf w l) (length (b ∷ s))) (declined refusals.Long) (Ok (readOf l (b ∷ s)))) ≡ Ok m
         whole = sym (ap (wholeOf w (b ∷ s)) is) ∙ e
 
         by-length : (x y : Bool) → ltb (length (b ∷ s)) (lengthOf w l) ≡ x → ltb (lengthOf w l) (length (b ∷ s)) ≡ y → Read w (b ∷ s) m

@@ -6,7 +6,7 @@ use Prim.Native.Nat.{ℕ, zero, suc, _+_, _-_, _<_, _≤_}
 use native.Mathlib.Omega.{arith}
 use borrow.Author.Tests.{ltb-false}
 use lib.Dec.{ltb}
-use lib.ListN.{length, take, drop, length-append, take-append-drop}
+use lib.ListN.{length, take, drop, length-append, length-drop, take-append-drop}
 use lib.Seq.{drop-drop, length-take-le}
 use Rattle.std.proofs.shelf.Lists.{take-at, drop-at}
 use Rattle.std.proofs.shelf.Ways.{tells}
@@ -14,12 +14,12 @@ use Rattle.std.specs.declared.option.Option.{Option}
 use Rattle.std.specs.declared.option.Option.the-variants.{Some, None}
 use Rattle.std.specs.declared.result.Result.{Result}
 use Rattle.std.specs.declared.result.Result.the-variants.{Ok, Err}
-use Rattle.common.specs.declared.refusal.Refusal.{Refusal}
+use Rattle.common.specs.Refusals.{declined}
 use Rattle.common.specs.declared.refusal.Refusal.the-variants as refusals
 use Rattle.wire.specs.Letters.{letterOf, lengthOf}
 use Rattle.wire.specs.Statements.{Message}
 use Rattle.wire.specs.Codec.{readOf, parseOf}
-use Rattle.wire.specs.Frames.{cutOf, firstOf, nextOf, Walk, onward, walked, walkOf, joined, Statements, Walks}
+use Rattle.wire.specs.Frames.{cutOf, firstOf, nextOf, Walk, onward, walked, walkOf, joined, Statements, Handed, Walks}
 use Rattle.wire.specs.declared.letter.Letter.{Letter}
 use Rattle.wire.proofs.Reading.{lengths, whole-read, read-of}
 
@@ -52,7 +52,7 @@ first-some w b s v e = by-letter (letterOf b) refl
     by-letter None is = absurd (let f = sym (ap (cutOf w (b ∷ s)) is) ∙ e in let z : _≡_ {A = ℕ} 0 1 = cc in omega arith)
     by-letter (Some l) is = by-length (ltb (length (b ∷ s)) (lengthOf w l)) refl
       where
-        cuts : cond (ltb (length (b ∷ s)) (lengthOf w l)) (Err refusals.Short) (Ok (Some (take (lengthOf w l) (b ∷ s)))) ≡ Ok v
+        cuts : cond (ltb (length (b ∷ s)) (lengthOf w l)) (declined refusals.Short) (Ok (Some (take (lengthOf w l) (b ∷ s)))) ≡ Ok v
         cuts = sym (ap (cutOf w (b ∷ s)) is) ∙ e
 
         by-length : (x : Bool) → ltb (length (b ∷ s)) (lengthOf w l) ≡ x → (t : List ℕ) × (v ≡ Some t) × Piece w (b ∷ s) t
@@ -80,7 +80,7 @@ pub record Cut (w : ℕ) (s : List ℕ) (k : Walk) : Type 0 where
   pub whole : Statements w (k .found)
   pub front : s ≡ joined (k .found) ++ drop (length (joined (k .found))) s
   pub ended : k .stop ≡ None → s ≡ joined (k .found)
-  pub stopped : (e : Refusal) → k .stop ≡ Some e → firstOf w (drop (length (joined (k .found))) s) ≡ Err e
+  pub stopped : (e : ℕ) → k .stop ≡ Some e → firstOf w (drop (length (joined (k .found))) s) ≡ Err e
 
 one-more : (w : ℕ) (s t : List ℕ) (k : Walk) → Piece w s t → Cut w (drop (length t) s) k → Cut w s (record { found = t ∷ k .found; stop = k .stop })
 one-more w s t k p c =
@@ -101,7 +101,7 @@ cut-up zero w [] h = record { whole = tt; front = refl; ended = λ _. refl; stop
 cut-up zero w (b ∷ s) h = absurd (omega arith)
 cut-up (suc n) w s h = by (firstOf w s) refl (λ t p. cut-up n w (drop (length t) s) (omega (arith, shorter w s t p)))
   where
-    by : (v : Result (Option (List ℕ)) Refusal) → firstOf w s ≡ v → ((t : List ℕ) → Piece w s t → Cut w (drop (length t) s) (walked n w (drop (length t) s)))
+    by : (v : Result (Option (List ℕ)) ℕ) → firstOf w s ≡ v → ((t : List ℕ) → Piece w s t → Cut w (drop (length t) s) (walked n w (drop (length t) s)))
         → Cut w s (onward v (λ t. walked n w (drop (length t) s)))
     by (Err r) e more = record { whole = tt; front = refl; ended = λ z. absurd (let y : _≡_ {A = ℕ} 0 1 = cc in omega arith); stopped = λ q z. e ∙ cc }
     by (Ok None) e more = record { whole = tt; front = refl; ended = λ _. first-end w s e; stopped = λ q z. absurd (let y : _≡_ {A = ℕ} 0 1 = cc in omega arith) }
@@ -138,12 +138,25 @@ cut-again (suc n) w (t ∷ ts) ok h =
 pub next-first : (w p : ℕ) (s : List ℕ) → p ≤ length s → nextOf w s p ≡ firstOf w (drop p s)
 next-first w p s h = let a : ltb (length s) p ≡ false = grind (arith, tells) in rw a refl
 
+-- next hands out joined statements one by one
+handed : (w p : ℕ) (s rest : List ℕ) (ts : List (List ℕ)) → Statements w ts → p ≤ length s → drop p s ≡ joined ts ++ rest → Handed w s p ts
+handed w p s rest [] ok inside e = tt
+handed w p s rest (t ∷ ts) ok inside e =
+    let left : drop p s ≡ t ++ (joined ts ++ rest) = e ∙ append-assoc t (joined ts) rest in
+    let long : length s - p ≡ length t + length (joined ts ++ rest) = sym (length-drop p s) ∙ ap length left ∙ length-append t (joined ts ++ rest) in
+    (
+      next-first w p s inside ∙ ap (firstOf w) left ∙ first-joined w t (joined ts ++ rest) (ok .0 .0) (ok .0 .1),
+      handed w (p + length t) s rest ts (ok .1) (omega arith)
+      (sym (drop-drop (length t) p s) ∙ ap (drop (length t)) left ∙ drop-at t (joined ts ++ rest) (length t) refl),
+    )
+
 pub walks : (w : ℕ) (s : List ℕ) → Walks w s
 walks w s =
     let c = cut-up (length s) w s (omega arith) in
     let k = walkOf w s in
     let inside : length (joined (k .found)) ≤ length s = omega (arith, ap length (c .front) ∙ length-append (joined (k .found)) (drop (length (joined (k .found))) s)) in
     record {
+      handed = handed w 0 s (drop (length (joined (k .found))) s) (k .found) (c .whole) (omega arith) (c .front);
       whole = c .whole;
       front = c .front;
       ended = c .ended;
@@ -164,7 +177,7 @@ walked-enough (suc m) zero w (x ∷ s) a b = absurd (omega arith)
 walked-enough (suc m) (suc n) w s a b =
     by (firstOf w s) refl (λ t p. walked-enough m n w (drop (length t) s) (omega (arith, shorter w s t p)) (omega (arith, shorter w s t p)))
   where
-    by : (v : Result (Option (List ℕ)) Refusal) → firstOf w s ≡ v
+    by : (v : Result (Option (List ℕ)) ℕ) → firstOf w s ≡ v
         → ((t : List ℕ) → Piece w s t → walked m w (drop (length t) s) ≡ walked n w (drop (length t) s))
         → onward v (λ t. walked m w (drop (length t) s)) ≡ onward v (λ t. walked n w (drop (length t) s))
     by (Err r) e more = refl
@@ -172,11 +185,11 @@ walked-enough (suc m) (suc n) w s a b =
     by (Ok (Some t)) e more = ap (λ (k : Walk). record { found = t ∷ k .found; stop = k .stop }) (more t (first-piece w s t e))
 
 -- the walk goes as its first statement says
-pub walk-first : (w : ℕ) (s : List ℕ) (v : Result (Option (List ℕ)) Refusal) → firstOf w s ≡ v → walkOf w s ≡ onward v (λ t. walkOf w (drop (length t) s))
+pub walk-first : (w : ℕ) (s : List ℕ) (v : Result (Option (List ℕ)) ℕ) → firstOf w s ≡ v → walkOf w s ≡ onward v (λ t. walkOf w (drop (length t) s))
 unfolding walked
 walk-first w s v e = walked-enough (length s) (suc (length s)) w s (omega arith) (omega arith) ∙ ap (λ v. onward v (λ t. walked (length s) w (drop (length t) s))) e ∙ by v e
   where
-    by : (v : Result (Option (List ℕ)) Refusal) → firstOf w s ≡ v → onward v (λ t. walked (length s) w (drop (length t) s)) ≡ onward v (λ t. walkOf w (drop (length t) s))
+    by : (v : Result (Option (List ℕ)) ℕ) → firstOf w s ≡ v → onward v (λ t. walked (length s) w (drop (length t) s)) ≡ onward v (λ t. walkOf w (drop (length t) s))
     by (Err r) e = refl
     by (Ok None) e = refl
     by (Ok (Some t)) e =

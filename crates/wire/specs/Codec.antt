@@ -8,6 +8,7 @@ use Rattle.std.specs.declared.option.Option.{Option}
 use Rattle.std.specs.declared.option.Option.the-variants.{Some, None}
 use Rattle.std.specs.declared.result.Result.{Result}
 use Rattle.std.specs.declared.result.Result.the-variants.{Ok, Err}
+use Rattle.common.specs.Refusals.{numberOf, declined}
 use Rattle.common.specs.declared.refusal.Refusal.{Refusal}
 use Rattle.common.specs.declared.refusal.Refusal.the-variants as refusals
 use Rattle.wire.specs.Letters.{letterOf, lengthOf}
@@ -27,32 +28,32 @@ readOf Seen s = seen (getD s 1 0) (getD s 2 0) (getD s 3 0)
 readOf Confirm s = confirm (getD s 1 0) (getD s 2 0) (getD s 3 0)
 readOf Finish s = finish (getD s 1 0) (getD s 2 0)
 
-abbrev pub wholeOf : ℕ → List ℕ → Option Letter → Result Message Refusal
-wholeOf w s None = Err refusals.Letter
+abbrev pub wholeOf : ℕ → List ℕ → Option Letter → Result Message ℕ
+wholeOf w s None = declined refusals.Letter
 wholeOf w s (Some l) =
-    cond (ltb (length s) (lengthOf w l)) (Err refusals.Short)
-    (cond (ltb (lengthOf w l) (length s)) (Err refusals.Long) (Ok (readOf l s)))
+    cond (ltb (length s) (lengthOf w l)) (declined refusals.Short)
+    (cond (ltb (lengthOf w l) (length s)) (declined refusals.Long) (Ok (readOf l s)))
 
 -- one statement, where an entry has w bytes
-abbrev pub parseOf : ℕ → List ℕ → Result Message Refusal
-parseOf w [] = Err refusals.Short
+abbrev pub parseOf : ℕ → List ℕ → Result Message ℕ
+parseOf w [] = declined refusals.Short
 parseOf w (b ∷ s) = wholeOf w (b ∷ s) (letterOf b)
 
 -- an answer of `parse`
-abbrev pub parsed : Result declared.Statement Refusal → Result Message Refusal
+abbrev pub parsed : Result declared.Statement Refusal → Result Message ℕ
 parsed (Ok x) = Ok (messageOf x)
-parsed (Err e) = Err e
+parsed (Err e) = declined e
 
 -- the entry is too short or too long for its kind
-abbrev pub misfit : ℕ → List ℕ → Option Refusal
-misfit w x = cond (ltb (length x) w) (Some refusals.Short) (cond (ltb w (length x)) (Some refusals.Long) None)
+abbrev pub misfit : ℕ → List ℕ → Option ℕ
+misfit w x = cond (ltb (length x) w) (Some (numberOf refusals.Short)) (cond (ltb w (length x)) (Some (numberOf refusals.Long)) None)
 
 -- the epoch is too large for its byte
-abbrev pub oversize : ℕ → Option Refusal
-oversize e = cond (ltb 255 e) (Some refusals.Range) None
+abbrev pub oversize : ℕ → Option ℕ
+oversize e = cond (ltb 255 e) (Some (numberOf refusals.Range)) None
 
--- why a statement has no bytes
-abbrev pub unfit : ℕ → Message → Option Refusal
+-- why a statement has no bytes, by its number
+abbrev pub unfit : ℕ → Message → Option ℕ
 unfit w (send s x) = misfit w x
 unfit w (echo q s x) = misfit w x
 unfit w (ready q s x) = misfit w x
@@ -63,9 +64,9 @@ unfit w (confirm e r u) = oversize e
 unfit w (finish e b) = oversize e
 
 -- bytes laid over the front of others, if they fit
-abbrev pub placed : Option Refusal → List ℕ → List ℕ → Result ℕ Refusal × List ℕ
+abbrev pub placed : Option ℕ → List ℕ → List ℕ → Result ℕ ℕ × List ℕ
 placed (Some e) bs out = (Err e, out)
-placed None bs out = cond (ltb (length out) (length bs)) (Err refusals.Room, out) (Ok (length bs), bs ++ drop (length bs) out)
+placed None bs out = cond (ltb (length out) (length bs)) (declined refusals.Room, out) (Ok (length bs), bs ++ drop (length bs) out)
 
-abbrev pub writeOf : ℕ → Message → List ℕ → Result ℕ Refusal × List ℕ
+abbrev pub writeOf : ℕ → Message → List ℕ → Result ℕ ℕ × List ℕ
 writeOf w m out = placed (unfit w m) (bytesOf m) out

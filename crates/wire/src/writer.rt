@@ -4,6 +4,7 @@ ghost use lib.ListN.{take};
 ghost use Rattle.std.specs.Vec.{made};
 ghost use Rattle.std.specs.declared.option.Option.the-variants.{None};
 ghost use Rattle.std.specs.declared.result.Result.the-variants.{Ok};
+ghost use Rattle.common.specs.Refusals.{numbered};
 ghost use Rattle.wire.specs.Statements.{messageOf};
 ghost use Rattle.wire.specs.Codec.{misfit, oversize, placed, writeOf, parseOf};
 use crate::statement::Statement;
@@ -13,14 +14,14 @@ use entry::Entry;
 impl Statement<'_> {
     // Writes the statement at the front of `out`, and answers how many bytes it has.
     pub fn write<K: Entry>(self, out: &mut [u8]) -> Result<usize, Refusal>
-        ensures value { λ r. ⌜ (r, now (out .exit)) ≡ writeOf width (messageOf (self .entry)) (now (out .entry)) ⌝ }
+        ensures value { λ r. ⌜ (numbered r, now (out .exit)) ≡ writeOf width (messageOf (self .entry)) (now (out .entry)) ⌝ }
         ensures back { λ r. ⌜ made r (λ n. parseOf width (take n (now (out .exit))) ≡ Ok (messageOf (self .entry))) ⌝ }
     {
         self.put::<K>(out)
     }
 
     fn put<K: Entry>(self, out: &mut [u8]) -> Result<usize, Refusal>
-        ensures { λ r. ⌜ (r, now (out .exit)) ≡ writeOf width (messageOf (self .entry)) (now (out .entry)) ⌝ }
+        ensures { λ r. ⌜ (numbered r, now (out .exit)) ≡ writeOf width (messageOf (self .entry)) (now (out .entry)) ⌝ }
     {
         match self {
             Statement::Send { slot, item } => put_item::<K>(&[b'S', slot], item, out),
@@ -41,7 +42,7 @@ impl Statement<'_> {
 
 // An entry behind the letter and operands, if it has the kind's width.
 fn put_item<K: Entry>(head: &[u8], item: &[u8], out: &mut [u8]) -> Result<usize, Refusal>
-    ensures { λ r. ⌜ (r, now (out .exit)) ≡ placed (misfit width (now (item .entry))) (now (head .entry) ++ now (item .entry)) (now (out .entry)) ⌝ }
+    ensures { λ r. ⌜ (numbered r, now (out .exit)) ≡ placed (misfit width (now (item .entry))) (now (head .entry) ++ now (item .entry)) (now (out .entry)) ⌝ }
 {
     if item.len() < K::size() {
         return Err(Refusal::Short);
@@ -54,7 +55,7 @@ fn put_item<K: Entry>(head: &[u8], item: &[u8], out: &mut [u8]) -> Result<usize,
 
 // A vote, if its epoch fits a byte.
 fn put_vote(letter: u8, epoch: u16, rest: &[u8], out: &mut [u8]) -> Result<usize, Refusal>
-    ensures { λ r. ⌜ (r, now (out .exit)) ≡ placed (oversize epoch) (letter ∷ epoch ∷ now (rest .entry)) (now (out .entry)) ⌝ }
+    ensures { λ r. ⌜ (numbered r, now (out .exit)) ≡ placed (oversize epoch) (letter ∷ epoch ∷ now (rest .entry)) (now (out .entry)) ⌝ }
 {
     if epoch > 255 {
         return Err(Refusal::Range);
@@ -64,7 +65,7 @@ fn put_vote(letter: u8, epoch: u16, rest: &[u8], out: &mut [u8]) -> Result<usize
 
 // Both parts, one behind the other, if they fit.
 fn put_both(head: &[u8], tail: &[u8], out: &mut [u8]) -> Result<usize, Refusal>
-    ensures { λ r. ⌜ (r, now (out .exit)) ≡ placed None (now (head .entry) ++ now (tail .entry)) (now (out .entry)) ⌝ }
+    ensures { λ r. ⌜ (numbered r, now (out .exit)) ≡ placed None (now (head .entry) ++ now (tail .entry)) (now (out .entry)) ⌝ }
 {
     let at = head.len();
     if out.len() < at || out.len() - at < tail.len() {

@@ -21,4 +21,4 @@ returns c =
     let within : n - 4 < 13 = omega arith in
     let is = row table 4 n tt low within in
     let ranged : quorumOf n ≡ Ok (faults n, echoes n) = grind (arith, tells) in
-    record { value = ap Ok is ∙ sym ranged; sound = subst (Sound n) (sym is) (sound n low) }
+    record { value = ap Ok is ∙ sym ranged; sound = subst (Sound n) (sym is) (sound n (omega arith)) }

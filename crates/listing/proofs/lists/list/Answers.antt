@@ -7,6 +7,7 @@ use Rattle.std.specs.Of.Vec.{vec-items}
 use Rattle.std.specs.Options.{mapped}
 use Rattle.std.specs.declared.option.Option.the-variants.{Some}
 use Rattle.std.specs.declared.result.Result.the-variants.{Ok}
+use Rattle.common.specs.Refusals.{numberOf}
 use Rattle.common.specs.declared.refusal.Refusal.the-variants as refusals
 use Rattle.wire.specs.Frames.{nextOf}
 use Rattle.listing.specs.Rows.{Kind, kindOf}
@@ -25,7 +26,7 @@ loop-found-holds g c =
 
 pub returns-in-Err : need.returns-in-Err
 returns-in-Err g c =
-    sym (at-stop (kind g) (c .args .frame .now) (c .loop-found .place) (c .loop-found .inv .0) (vec-items (c .loop-found .rows)) (c .loop-found .count) (c .in-Err .e) (sym (c .in-Err .ensures tt .value)))
+    sym (at-stop (kind g) (c .args .frame .now) (c .loop-found .place) (c .loop-found .inv .0) (vec-items (c .loop-found .rows)) (c .loop-found .count) (numberOf (c .in-Err .e)) (sym (c .in-Err .ensures tt .value)))
     ∙ c .loop-found .inv .2
 
 pub returns-in-rest : need.returns-in-rest
@@ -40,7 +41,7 @@ returns-then-not-branch g c =
     let t = c .in-Some .part .now in
     let next = sym (c .in-Ok .ensures tt .value) ∙ ap (λ o. Ok (mapped now o)) (c .in-Some .is) in
     let none = no-row (partRow (kind g) place t) _ _ (vec-items (c .loop-found .rows)) (c .in-Continue-push-row .ensures tt) (c .if-not-branch .taken) in
-    ap (λ rows. record { rows = rows; count = c .loop-found .count; fault = Some (refusals.Entry, place) }) (none .1)
+    ap (λ rows. record { rows = rows; count = c .loop-found .count; fault = Some (numberOf refusals.Entry, place) }) (none .1)
     ∙ sym (at-none (kind g) (c .args .frame .now) place (c .loop-found .inv .0) (vec-items (c .loop-found .rows)) (c .loop-found .count) t next (none .0))
     ∙ c .loop-found .inv .2
 

@@ -5,7 +5,7 @@ use lib.Chars.{codes}
 use lib.ListN.{length}
 use Rattle.std.specs.Of.Vec.{vec-items}
 use Rattle.listing.specs.Lists.{Listed}
-use Rattle.listing.specs.Records.{noteOf, headingOf, faultOf}
+use Rattle.listing.specs.Records.{noteOf, headingOf, faultIn, faultOf}
 use Rattle.listing.proofs.records.assembled.Needs as need
 
 -- the parts of a record, put one behind the other
@@ -22,7 +22,7 @@ returns g c =
     let title : ℕ → List ℕ = noteOf (codes "frame") (length (c .args .frame .now)) in
     let heading = headingOf (g .K·Entry .heading) in
     let rows = c .as-slice .ensures .value in
-    whole (title (l .count)) heading (vec-items (l .rows)) (faultOf (l .fault))
+    whole (title (l .count)) heading (vec-items (l .rows)) (faultOf (faultIn (l .fault)))
     (c .new-out .ensures .items) (c .in-Continue-push-note .ensures tt) (c .in-Continue-push-heading .ensures tt)
     (c .in-Continue-extend-from-slice .ensures tt .items ∙ ap (λ x. vec-items (c .push-heading .last .out) ++ x) rows) (c .in-Continue-push-fault .ensures tt)
     ∙ ap (λ (m : Listed). title (m .count) ++ (heading ++ (m .rows ++ faultOf (m .fault)))) (c .in-Continue-listing .ensures tt)

@@ -5,7 +5,8 @@ use Rattle.std.specs.Of.Vec.{vec-items}
 use Rattle.std.specs.Written.{decimal}
 use Rattle.wire.specs.Letters.{byteOf}
 use Rattle.wire.specs.Statements.{messageOf, letterIn, itemIn}
-use Rattle.listing.specs.Rows.{saysOf, operandsOf, breadthOf, numbersOf, padded, textOf, following}
+use Rattle.entry.specs.Columns.{breadthOf}
+use Rattle.listing.specs.Rows.{saysOf, operandsOf, numbersOf, padded, textOf, following}
 use Rattle.listing.proofs.Growing.{then-more}
 use Rattle.listing.proofs.rows.push_statement.Needs as need
 

@@ -10,6 +10,7 @@ use Rattle.std.proofs.shelf.Ways.{tells}
 use Rattle.std.specs.declared.option.Option.{Option}
 use Rattle.std.specs.declared.option.Option.the-variants.{Some, None}
 use Rattle.std.specs.declared.result.Result.the-variants.{Ok, Err}
+use Rattle.common.specs.Refusals.{declined}
 use Rattle.common.specs.declared.refusal.Refusal.the-variants as refusals
 use Rattle.wire.specs.Letters.{letterOf, lengthOf}
 use Rattle.wire.specs.Frames.{cutOf, firstOf, nextOf}
@@ -24,7 +25,7 @@ module _ (w p : ℕ) (s : List ℕ) (within : p < length s) where
       let left = drop-more s p 0 within in
       next-first w p s (omega arith) ∙ ap (firstOf w) left ∙ (λ i. cutOf w (sym left i) (sym is i))
 
-  too-short : (l : Letter) → Some l ≡ letterOf (getD s p 0) → length s - p < lengthOf w l → Err refusals.Short ≡ nextOf w s p
+  too-short : (l : Letter) → Some l ≡ letterOf (getD s p 0) → length s - p < lengthOf w l → declined refusals.Short ≡ nextOf w s p
   too-short l is h =
       let n : length (drop p s) ≡ length s - p = length-drop p s in
       let c : ltb (length (drop p s)) (lengthOf w l) ≡ true = grind (arith, tells) in
