@@ -60,13 +60,35 @@ fn walk() -> Result<(), Fail> {
     stopped(&FRAME, 1, 6)
 }
 
-#[test]
-fn cut_at_each_byte() -> Result<(), Fail> {
-    at_end(&FRAME[0..0], 0)?;
-    for n in 1..11 {
-        stopped(&FRAME[0..n], 0, 7)?;
-        declined(&FRAME[0..n], 7)?;
+// A whole statement, which is declined if it is cut at any byte.
+fn whole(s: &[u8]) -> Result<(), Fail> {
+    check(parse::<Reading>(s).is_ok())?;
+    cut(s, 0, s.len())?;
+    for n in 1..s.len() {
+        stopped(&s[0..n], 0, 7)?;
+        declined(&s[0..n], 7)?;
     }
+    Ok(())
+}
+
+#[test]
+fn entries_cut_at_each_byte() -> Result<(), Fail> {
+    whole(&[b'S', 1, 0, 12, 7, 1, 0, 0, 13, 72])?;
+    whole(&[b'E', 2, 1, 0, 12, 7, 1, 0, 0, 13, 72])?;
+    whole(&[b'R', 2, 1, 0, 12, 7, 1, 0, 0, 13, 72])?;
+    whole(&[b'H', 2, 1, 0, 12, 7, 1, 0, 0, 13, 72])
+}
+
+#[test]
+fn votes_cut_at_each_byte() -> Result<(), Fail> {
+    whole(&[b'V', 7, 1, 0])?;
+    whole(&[b'A', 7, 1, 0])?;
+    whole(&[b'C', 7, 1, 3])?;
+    whole(&[b'F', 7, 1])
+}
+
+#[test]
+fn frame_cut_at_each_byte() -> Result<(), Fail> {
     at_end(&FRAME[0..11], 11)?;
     for n in 12..14 {
         cut(&FRAME[0..n], 0, 11)?;

@@ -6,11 +6,11 @@ pub enum Refusal {
     Own,
     Slots,
     Table,
-    // next and parse
+    // a frame, a statement or an entry by its bytes
     Place,
     Letter,
     Short,
-    // hear
+    // hear, some also parse, write and submit
     Sender,
     Long,
     Range,
@@ -25,7 +25,7 @@ pub enum Refusal {
     // open
     Over,
     Begun,
-    // show
+    // show, and the writing of one statement
     Number,
     Room,
     // page and print

@@ -1,5 +1,5 @@
 // Reads a frame from standard input and prints its record. The argument names the kind of entry.
-// All that is printed is made by `listing::record`.
+// Every record that is printed is made by `listing::record`.
 use entry::Entry;
 use entry::Reading;
 use entry::ReadingEntry;
@@ -19,6 +19,9 @@ fn main(rt: LibcRuntime) -> Result<(), AnyError> {
     let Some(kind) = args.next() else {
         return usage(&rt);
     };
+    if args.next().is_some() {
+        return usage(&rt);
+    }
     match kind.as_str() {
         "reading" => show::<Reading>(&rt),
         "order" => show::<ShareOrder>(&rt),

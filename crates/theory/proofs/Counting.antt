@@ -5,6 +5,7 @@ use mathlib.Core.Bool.{Bool, true, false, not, _&&_}
 use mathlib.Core.Logic.{_⊎_, inl, inr}
 use native.Mathlib.Omega.{arith}
 use Rattle.std.proofs.shelf.Tests.{and-parts, cases-order}
+use Rattle.common.proofs.Tables.{sound}
 use Rattle.theory.specs.Count.{bit, count, Boxes, Honest, Of, Somebody, Counting, Tabled, Counts}
 
 bit-meet : (p q : Bool) → bit p + bit q ≤ 1 + bit (p && q)
@@ -123,7 +124,7 @@ counting b = record {
 }
 
 tabled : (n : ℕ) → 1 ≤ n → Tabled n
-tabled n h = record { room = omega arith; cross = omega arith; echoes = omega arith; readies = omega arith }
+tabled n h = record { sound = sound n h; readies = omega arith }
 
 pub counts : Counts
 counts = record { counting = counting; tabled = tabled }

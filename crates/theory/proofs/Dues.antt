@@ -1,5 +1,5 @@
 -- What a turn's rule says is due: its statement may be stated, its epoch left, its page written.
-use Prim.Native.Nat.{ℕ, zero, suc, _-_, _≤_, _<_}
+use Prim.Native.Nat.{ℕ, zero, suc, _≤_, _<_}
 use mathlib.Core.Path.{_≡_, refl, sym, _∙_}
 use mathlib.Core.Bool.{Bool, true, false, not, false≢true}
 use mathlib.Core.Logic.{_⊎_, inl, inr, ⊎-elim}
@@ -9,7 +9,7 @@ use Rattle.std.proofs.shelf.Tests.{leb-true, le-leb}
 use Rattle.theory.specs.Statement.{Bits, only, both, Stmt, echo, ready, have, value, seen, confirm, finish, at-finish}
 use Rattle.theory.specs.Plan.{Plan, Rule, some-honest, most, all-honest}
 use Rattle.theory.specs.History.{Say, Next, Confirmed, Locked, Decided, Due}
-use Rattle.theory.specs.Ledgers.{Finds}
+use Rattle.theory.proofs.Passing.{Finds}
 use Rattle.theory.specs.Machine.{Box, Holds, Board, own, says}
 use Rattle.theory.specs.Turns.{told, tally, kept-at, queue, writes}
 use Rattle.theory.specs.Rules.{Several, Heard, From-else, Echo-rule, Ready-rule, Keep-rule, Follow-rule, Second-rule, Values, Seen-rule, Confirm-rule, Within, Union, Close-rule}

@@ -12,7 +12,7 @@ use Rattle.theory.specs.Statement.{Stmt, ready, have, finish}
 use Rattle.theory.specs.Plan.{Rule, boxes, sameness, some-honest, most}
 use Rattle.theory.specs.History.{Decided, Log, Said, Opened}
 use Rattle.theory.specs.Book.{Ledger, in-book, candidate}
-use Rattle.theory.specs.Ledgers.{Finds, Passes, Ledgers}
+use Rattle.theory.proofs.Passing.{Finds, Passes, Ledgers}
 use Rattle.theory.proofs.Counting.{from-most, from-all}
 use Rattle.theory.proofs.Reasons.{History}
 use Rattle.theory.proofs.Agreement.{vouched-same, decided-is, decided-same, decided-opened}

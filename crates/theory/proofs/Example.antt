@@ -7,7 +7,7 @@ use native.Mathlib.Omega.{arith}
 use native.Mathlib.Decide.{ℕ-discrete}
 use lib.Dec.{ltb}
 use Rattle.theory.specs.Count.{Honest, count}
-use Rattle.theory.specs.Statement.{sends, echo, Cell-discrete}
+use Rattle.theory.specs.Statement.{sends, echo, Cell-discrete, ready}
 use Rattle.theory.specs.Plan.{Rule, boxes}
 use Rattle.theory.specs.Machine.{Holds, Board}
 use Rattle.theory.specs.Search.{orElse, first, bits, only-if, guard, unless, given, bind, map, entry}
@@ -32,9 +32,9 @@ script-written : book rule script 1 ≡ page ∷ []
 unfolding orElse first bits only-if guard unless given bind entry backed map Cell-discrete ℕ-discrete
 script-written = refl
 
-script-believed : Holds (box rule script 1) 3 (echo 0 0 99) × Board (box rule script 0) (sends 0 7)
+script-believed : Holds (box rule script 1) 3 (echo 0 0 99) × Holds (box rule script 2) 3 (ready 0 0 99) × Board (box rule script 0) (sends 0 7)
 unfolding orElse first bits only-if guard unless given bind entry backed map Cell-discrete ℕ-discrete
-script-believed = (refl, refl)
+script-believed = (refl, refl, refl)
 
 pub met : Met
 met =

@@ -7,7 +7,7 @@ use Rattle.theory.specs.Statement.{Stmt, sends, echo, ready, have, value, seen
 use Rattle.theory.specs.Plan.{Rule, boxes}
 use Rattle.theory.specs.History.{Say, Next, Locked, Due}
 use Rattle.theory.specs.Book.{Ledger}
-use Rattle.theory.specs.Ledgers.{Finds, Passes}
+use Rattle.theory.proofs.Passing.{Finds, Passes}
 use Rattle.theory.proofs.Counting.{weaken}
 
 module _ {X : Type 0} (R : Rule X) (Said More : ℕ → Stmt X → Type 0) (grows : (i : ℕ) → Honest (boxes R) i → (s : Stmt X) → Said i s → More i s) where

@@ -10,7 +10,7 @@ use Rattle.theory.specs.Statement.{Stmt, sends}
 use Rattle.theory.specs.Plan.{Rule, boxes, sameness}
 use Rattle.theory.specs.History.{Log, Said}
 use Rattle.theory.specs.Book.{Page, Ledger, in-book, write, Begins, Once, Each}
-use Rattle.theory.specs.Ledgers.{Finds, Passes, Ledgers}
+use Rattle.theory.proofs.Passing.{Finds, Passes, Ledgers}
 use Rattle.theory.proofs.Reasons.{History}
 use Rattle.theory.proofs.Agreement.{vouched-same, kept-sent, decided-same}
 use Rattle.theory.proofs.Books.{find-same, find-found, begins-same, begins-trans, each-snoc, once-snoc}

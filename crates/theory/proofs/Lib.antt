@@ -1,6 +1,7 @@
 -- Proofs, each file after those that it uses.
 pub mod Counting
 pub mod Books
+pub mod Passing
 pub mod Growth
 pub mod Reasons
 pub mod Agreement

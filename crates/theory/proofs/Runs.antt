@@ -11,7 +11,7 @@ use Rattle.theory.specs.Statement.{Stmt, value, finish, Cell, at-send, at-echo
 use Rattle.theory.specs.Plan.{Rule, boxes}
 use Rattle.theory.specs.History.{Due, Decided, Log, Said}
 use Rattle.theory.specs.Book.{Ledger, empty}
-use Rattle.theory.specs.Ledgers.{Finds, Passes}
+use Rattle.theory.proofs.Passing.{Finds, Passes}
 use Rattle.theory.specs.Machine.{Stage, unopened, awaiting, running, Box, made, Holds, Board, own, Small, says, hears, stays, enters, leaves, small}
 use Rattle.theory.proofs.Memory.{Current, Used}
 

@@ -13,7 +13,7 @@ use Rattle.theory.specs.Statement.{Stmt, value, finish, cell}
 use Rattle.theory.specs.Plan.{Rule, boxes}
 use Rattle.theory.specs.History.{Said, Opened, Legal}
 use Rattle.theory.specs.Book.{Ledger}
-use Rattle.theory.specs.Ledgers.{Finds, Passes, Ledgers}
+use Rattle.theory.proofs.Passing.{Finds, Passes, Ledgers}
 use Rattle.theory.specs.Machine.{Box, Holds, Small, says, hears, stays, enters, leaves, small}
 use Rattle.theory.proofs.Books.{none≢some}
 use Rattle.theory.proofs.Growth.{due-grows, finds-grows, passes-grows}

@@ -2,7 +2,7 @@
 use Prim.Native.Nat.{ℕ, zero, suc, _+_, _*_, _-_, _≤_, _<_}
 use mathlib.Core.Path.{_≡_}
 use mathlib.Core.Bool.{Bool, true, false, not}
-use Rattle.common.specs.Quorums.{faults, echoes}
+use Rattle.common.specs.Quorums.{faults, echoes, Sound}
 
 abbrev pub bit : Bool → ℕ
 bit true = 1
@@ -53,9 +53,7 @@ pub record Counting (b : Boxes) : Type 0 where
 
 -- the table's f and Q are as asked, and N - f boxes can make every number that a turn asks
 pub record Tabled (n : ℕ) : Type 0 where
-  pub room : 3 * faults n < n
-  pub cross : n + faults n < 2 * echoes n
-  pub echoes : echoes n ≤ n - faults n
+  pub sound : Sound n (faults n, echoes n)
   pub readies : 2 * faults n + 1 ≤ n - faults n
 
 pub record Counts : Type 0 where

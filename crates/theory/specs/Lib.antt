@@ -4,7 +4,6 @@ pub mod Statement
 pub mod Plan
 pub mod History
 pub mod Book
-pub mod Ledgers
 pub mod Machine
 pub mod Search
 pub mod Turns

@@ -64,6 +64,6 @@ pub record Met : Type 0 where
   pub coin : rule .coin ≡ by-turns
   pub fair : Fair rule script
   pub faulty : rule .honest 3 ≡ true → ⊥
-  pub believed : Holds (box rule script 1) 3 (echo 0 0 99) × Board (box rule script 0) (sends 0 7)
+  pub believed : Holds (box rule script 1) 3 (echo 0 0 99) × Holds (box rule script 2) 3 (ready 0 0 99) × Board (box rule script 0) (sends 0 7)
   pub written : (i : ℕ) → Honest (boxes rule) i → book rule script i ≡ page ∷ []
   pub quiet : Quiet rule script

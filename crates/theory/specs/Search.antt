@@ -1,4 +1,5 @@
--- Searches that the turns are made of.
+-- Searches that the turns are made of. They stay shut, but where a lemma on searches opens them, so that proofs of the
+-- turns go by those lemmas; the library's own are always open.
 use Prim.Native.Nat.{ℕ, zero, suc}
 use mathlib.Core.Bool.{Bool, true, false}
 use Rattle.std.specs.declared.option.Option.{Option}

@@ -143,11 +143,10 @@ handed : (w p : ℕ) (s rest : List ℕ) (ts : List (List ℕ)) → Statements w
 handed w p s rest [] ok inside e = tt
 handed w p s rest (t ∷ ts) ok inside e =
     let left : drop p s ≡ t ++ (joined ts ++ rest) = e ∙ append-assoc t (joined ts) rest in
-    let long : length s - p ≡ length t + length (joined ts ++ rest) = sym (length-drop p s) ∙ ap length left ∙ length-append t (joined ts ++ rest) in
-    (
+    let long : length s - p ≡ length t + length (joined ts ++ rest) = sym (length-drop p s) ∙ ap length left ∙ length-append t (joined ts ++ rest) in (
       next-first w p s inside ∙ ap (firstOf w) left ∙ first-joined w t (joined ts ++ rest) (ok .0 .0) (ok .0 .1),
       handed w (p + length t) s rest ts (ok .1) (omega arith)
-      (sym (drop-drop (length t) p s) ∙ ap (drop (length t)) left ∙ drop-at t (joined ts ++ rest) (length t) refl),
+          (sym (drop-drop (length t) p s) ∙ ap (drop (length t)) left ∙ drop-at t (joined ts ++ rest) (length t) refl),
     )
 
 pub walks : (w : ℕ) (s : List ℕ) → Walks w s

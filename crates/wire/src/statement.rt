@@ -1,4 +1,4 @@
-// What a replica states, as it was read: numbers of any size, and the entry's bytes still in the frame.
+// What a replica states, as it was read: numbers in range or not, and the entry's bytes still in the frame.
 #[derive(Clone, Copy)]
 pub enum Statement<'a> {
     // The sender's own slot holds the entry.
