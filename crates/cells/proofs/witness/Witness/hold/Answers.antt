@@ -1,0 +1,7 @@
+use native.Mathlib.Omega.{arith}
+use Rattle.std.specs.Options.{mapped}
+use Rattle.std.proofs.shelf.Lists.{length-map}
+use Rattle.cells.proofs.witness.Witness.hold.Needs as need
+
+pub fill-requires : need.fill-requires
+fill-requires g c κs = omega (arith, c .pre, length-map (c .args .self .now .cells .now) (mapped (g .K·Entry .bytes)))
