@@ -5,10 +5,9 @@ use Prim.Native.Nat.{ℕ, _+_, _*_, _/_, _%_, _^_}
 use lib.Dec.{eqb}
 use lib.ListN.{length, getD}
 use Rattle.std.specs.declared.result.Result.{Result}
-use Rattle.std.specs.declared.result.Result.the-variants.{Ok, Err}
+use Rattle.std.specs.declared.result.Result.the-variants.{Ok}
 use Rattle.common.specs.Limits.{epochs}
 use Rattle.common.specs.Refusals.{declined}
-use Rattle.common.specs.declared.refusal.Refusal.{Refusal}
 use Rattle.common.specs.declared.refusal.Refusal.the-variants as refusals
 use Rattle.coin.specs.declared.sheet.Sheet.{Sheet}
 
@@ -23,8 +22,3 @@ sheetOf s e r = eqb (getD (s .dealt) (2 * e + r / 8) 0 / 2 ^ (r % 8) % 2) 1
 -- two bytes for each epoch make a sheet
 abbrev pub dealOf : List ℕ → Result (List ℕ) ℕ
 dealOf bytes = cond (eqb (length bytes) (2 * epochs)) (Ok bytes) (declined refusals.Sheet)
-
--- an answer of `deal`, by the bytes
-abbrev pub dealtOf : Result Sheet Refusal → Result (List ℕ) ℕ
-dealtOf (Ok s) = Ok (s .dealt)
-dealtOf (Err e) = declined e

@@ -1,5 +1,6 @@
 ghost use mathlib.Core.Path.{_≡_};
-ghost use Rattle.coin.specs.Coins.{sheetOf, dealOf, dealtOf};
+ghost use Rattle.common.specs.Refusals.{answered};
+ghost use Rattle.coin.specs.Coins.{sheetOf, dealOf};
 use crate::kind::Coin;
 use crate::sheet::SHEET;
 use crate::sheet::Sheet;
@@ -8,7 +9,7 @@ use common::Refusal;
 impl Sheet {
     // The sheet with these bytes.
     pub fn deal(bytes: &[u8]) -> Result<Sheet, Refusal>
-        ensures { λ r. ⌜ dealtOf r ≡ dealOf (now (bytes .entry)) ⌝ }
+        ensures { λ r. ⌜ answered (λ s. s .dealt) r ≡ dealOf (now (bytes .entry)) ⌝ }
     {
         if bytes.len() != SHEET {
             return Err(Refusal::Sheet);

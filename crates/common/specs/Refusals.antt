@@ -35,7 +35,10 @@ numberOf Sheet = 24
 abbrev pub declined : {A : Type 0} → Refusal → Result A ℕ
 declined e = Err (numberOf e)
 
--- what a call answers
+-- what a call answers, with what it hands out seen by f
+abbrev pub answered : {A B : Type 0} → (A → B) → Result A Refusal → Result B ℕ
+answered f (Ok x) = Ok (f x)
+answered f (Err e) = declined e
+
 abbrev pub numbered : {A : Type 0} → Result A Refusal → Result A ℕ
-numbered (Ok x) = Ok x
-numbered (Err e) = declined e
+numbered r = answered (λ x. x) r

@@ -9,10 +9,9 @@ use Rattle.std.specs.declared.option.Option.the-variants.{Some, None}
 use Rattle.std.specs.declared.result.Result.{Result}
 use Rattle.std.specs.declared.result.Result.the-variants.{Ok, Err}
 use Rattle.common.specs.Refusals.{numberOf, declined}
-use Rattle.common.specs.declared.refusal.Refusal.{Refusal}
 use Rattle.common.specs.declared.refusal.Refusal.the-variants as refusals
 use Rattle.wire.specs.Letters.{letterOf, lengthOf}
-use Rattle.wire.specs.Statements.{Message, send, echo, ready, have, value, seen, confirm, finish, messageOf, bytesOf}
+use Rattle.wire.specs.Statements.{Message, send, echo, ready, have, value, seen, confirm, finish, bytesOf}
 use Rattle.wire.specs.declared.letter.Letter.{Letter}
 use Rattle.wire.specs.declared.letter.Letter.the-variants.{Send, Echo, Ready, Have, Value, Seen, Confirm, Finish}
 use Rattle.wire.specs.declared.statement.Statement as declared
@@ -38,11 +37,6 @@ wholeOf w s (Some l) =
 abbrev pub parseOf : ℕ → List ℕ → Result Message ℕ
 parseOf w [] = declined refusals.Short
 parseOf w (b ∷ s) = wholeOf w (b ∷ s) (letterOf b)
-
--- an answer of `parse`
-abbrev pub parsed : Result declared.Statement Refusal → Result Message ℕ
-parsed (Ok x) = Ok (messageOf x)
-parsed (Err e) = declined e
 
 -- the entry is too short or too long for its kind
 abbrev pub misfit : ℕ → List ℕ → Option ℕ

@@ -5,14 +5,11 @@ use mathlib.Core.Bool.{cond}
 use mathlib.Core.List.{List, [], _∷_, _++_}
 use lib.Dec.{ltb}
 use lib.ListN.{length, take, drop}
-use denote.Ref.{RefT, now}
-use Rattle.std.specs.Options.{mapped}
 use Rattle.std.specs.declared.option.Option.{Option}
 use Rattle.std.specs.declared.option.Option.the-variants.{Some, None}
 use Rattle.std.specs.declared.result.Result.{Result}
 use Rattle.std.specs.declared.result.Result.the-variants.{Ok, Err}
 use Rattle.common.specs.Refusals.{declined}
-use Rattle.common.specs.declared.refusal.Refusal.{Refusal}
 use Rattle.common.specs.declared.refusal.Refusal.the-variants as refusals
 use Rattle.wire.specs.Letters.{letterOf, lengthOf}
 use Rattle.wire.specs.Statements.{Message}
@@ -31,11 +28,6 @@ firstOf w (b ∷ s) = cutOf w (b ∷ s) (letterOf b)
 -- the next statement from a place on
 abbrev pub nextOf : ℕ → List ℕ → ℕ → Result (Option (List ℕ)) ℕ
 nextOf w s p = cond (ltb (length s) p) (declined refusals.Place) (firstOf w (drop p s))
-
--- an answer of `next`
-abbrev pub parts : Result (Option (RefT (List ℕ))) Refusal → Result (Option (List ℕ)) ℕ
-parts (Ok o) = Ok (mapped now o)
-parts (Err e) = declined e
 
 -- the statements of a frame, in order, and why no more follow, if that is not its end
 pub record Walk : Type 0 where

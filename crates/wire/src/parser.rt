@@ -4,9 +4,10 @@ ghost use Prim.Native.Nat.{ℕ, _≤_};
 ghost use lib.ListN.{length, drop};
 ghost use Rattle.std.specs.Vec.{made};
 ghost use Rattle.std.specs.declared.option.Option.the-variants.{None};
+ghost use Rattle.common.specs.Refusals.{answered};
 ghost use Rattle.wire.specs.Letters.{lengthOf};
 ghost use Rattle.wire.specs.Statements.{messageOf};
-ghost use Rattle.wire.specs.Codec.{readOf, parseOf, parsed, placed, writeOf};
+ghost use Rattle.wire.specs.Codec.{readOf, parseOf, placed, writeOf};
 use crate::letter::Letter;
 use crate::statement::Statement;
 use common::Refusal;
@@ -14,7 +15,7 @@ use entry::Entry;
 
 // The one statement that the bytes are; its entry stays a part of them.
 pub fn parse<K: Entry>(s: &[u8]) -> Result<Statement<'_>, Refusal>
-    ensures value { λ r. ⌜ parsed r ≡ parseOf width (now (s .entry)) ⌝ }
+    ensures value { λ r. ⌜ answered messageOf r ≡ parseOf width (now (s .entry)) ⌝ }
     ensures back { λ r. ⌜ made r (λ x. (out : List ℕ) → writeOf width (messageOf x) out ≡ placed None (now (s .entry)) out) ⌝ }
 {
     if s.is_empty() {
