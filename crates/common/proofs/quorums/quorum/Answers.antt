@@ -12,8 +12,8 @@ table =
 pub returns : goal.returns
 returns c =
     let n = c.args.n in
-    let low : 4 ≤ n = omega (arith, c.if-n-lt-MIN-REPLICAS.false) in
-    let high : n ≤ 16 = omega (arith, c.if-n-gt-MAX-REPLICAS.false) in
+    let low : 4 ≤ n = omega (arith, c.if-n-lt-MIN_REPLICAS.false) in
+    let high : n ≤ 16 = omega (arith, c.if-n-gt-MAX_REPLICAS.false) in
     let within : n - 4 < 13 = omega arith in
     let is = row table 4 n tt low within in
     let ranged : quorum_of n ≡ Ok (faults n, echoes n) = grind (arith, nat_tests) in
