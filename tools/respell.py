@@ -21,7 +21,7 @@ APART = {
 }
 IDENT = r"[^\s(){}\[\];,.λ\"|@]+"
 TOKEN = re.compile(IDENT)
-DEFINES = re.compile(rf"\s*(?:(?:pub|abbrev|unfoldable)\s+)*(?:(record|data)\s+)?((?:{IDENT}\s+)*?{IDENT})((?:\s+[({{].*[)}}])?)\s+:\s")
+DEFINES = re.compile(rf"\s*(?:(?:pub|abbrev|unfoldable)\s+)*(?:(record|data)\s+)?((?:{IDENT}\s+)*?{IDENT})((?:\s+[({{].*[)}}])?)\s+:(?:\s|$)")
 
 
 def respelt(name):

@@ -47,7 +47,7 @@ module _ (s : List ℕ) (small : (i : ℕ) → byte s i < 256) (i n : ℕ) (rest
 pub pair_unique : (m n : ℕ) → m < 65536 → n < 65536 → m / 256 % 256 ≡ n / 256 % 256 → m % 256 ≡ n % 256 → m ≡ n
 pair_unique m n hm hn a b = omega arith
 
-pub word-unique :
+pub word_unique :
     (m n : ℕ) → m < 2 ^ 32 → n < 2 ^ 32 → m / 16777216 % 256 ≡ n / 16777216 % 256 → m / 65536 % 256 ≡ n / 65536 % 256
     → m / 256 % 256 ≡ n / 256 % 256 → m % 256 ≡ n % 256 → m ≡ n
-word-unique m n hm hn a b c d = omega arith
+word_unique m n hm hn a b c d = omega arith

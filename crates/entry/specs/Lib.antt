@@ -5,3 +5,4 @@ pub mod Orders
 pub mod Bytes
 pub mod OneHouse
 pub mod ReadingEntryLemmas
+pub mod OrderUnique

@@ -3,6 +3,7 @@ ghost use Rattle.entry.specs.Orders.{fields_of, order_bytes, is_gift, is_close, 
 ghost use Rattle.std.proofs.Common.{arith, rules};
 ghost use Rattle.std.proofs.lemmas.Bool.Decides.{nat_tests};
 ghost use Rattle.entry.specs.Bytes.{octet_at};
+ghost use Rattle.entry.specs.OrderUnique.{order_unique};
 
 use crate::house::House;
 use crate::kind::Entry;
@@ -65,6 +66,8 @@ impl Entry for ShareOrder {
     ghost octets = { λ s h. octet_at s (Prim.grind (arith, nat_tests)) };
 
     ghost sound = { Prim.search rules };
+
+    ghost unique = { order_unique };
 
     ghost brief = { Prim.search rules };
 

@@ -3,7 +3,7 @@ ghost use Rattle.entry.specs.Numbers.{within};
 ghost use Rattle.entry.specs.Readings.{quantity_of, reading_bytes, is_reading, reading_columns};
 ghost use Rattle.std.proofs.Common.{arith, rules};
 ghost use Rattle.std.proofs.lemmas.Bool.Decides.{nat_tests};
-ghost use Rattle.entry.specs.Bytes.{octet_at, pair_unique, word-unique};
+ghost use Rattle.entry.specs.Bytes.{octet_at, pair_unique, word_unique};
 ghost use Rattle.entry.specs.OneHouse.{house_same, le_path};
 ghost use Rattle.entry.specs.ReadingEntryLemmas.{quantity_unique};
 
@@ -64,7 +64,7 @@ impl Entry for Reading {
         let house = house_same x.house y.house number in
         let week : x.week ≡ y.week = cc in
         let quantity = quantity_unique x.quantity y.quantity (cc) in
-        let amount = word-unique x.amount y.amount x.word y.word (cc) (cc) (cc) (cc) in
+        let amount = word_unique x.amount y.amount x.word y.word (cc) (cc) (cc) (cc) in
         λ i. record {
           house = house i;
           week = week i;

@@ -94,18 +94,18 @@ taken {s} {q} {front} {rest} c = (
 )
 
 -- what stands at a fault
-at-fault :
+at_fault :
     (k : Kind) (s : List ℕ) (sound : List (List ℕ)) (e q : ℕ) → q ≡ length (joined sound)
     → Why k q (walk_of k.width s).found sound (walk_of k.width s).stop e
     → (q ≤ length s) × (joined sound ≡ take q s)
     × ((next_of k.width s q ≡ Err e) ⊎ ((e ≡ number_of refusals.Entry) × ((t : List ℕ) × (next_of k.width s q ≡ Ok (Some t)) × (part_row k q t ≡ None))))
-at-fault k s sound e q long (inl h) =
+at_fault k s sound e q long (inl h) =
     let all = walks k.width s in
     let found = (walk_of k.width s).found in
     let cut : s ≡ joined sound ++ drop (length (joined found)) s = all.front ∙ ap (λ ts. joined ts ++ drop (length (joined found)) s) (sym h.0) in
     let c = taken (record { is = cut; long = long }) in
     (c.0, c.1, inl (ap (next_of k.width s) (long ∙ ap (λ ts. length (joined ts)) h.0) ∙ all.stopped e h.1))
-at-fault k s sound e q long (inr h) =
+at_fault k s sound e q long (inr h) =
     let all = walks k.width s in
     let found = (walk_of k.width s).found in
     let t = h.1.0 in
@@ -131,5 +131,5 @@ accounts k s =
       rows = l.rows;
       count = l.count;
       whole = λ f. let h = l.whole f in all.ended h.1 ∙ ap joined (sym h.0);
-      torn = λ e q f. let h = l.torn e q f in at-fault k s l.sound e q (h.0 ∙ zero-add (length (joined l.sound))) h.1;
+      torn = λ e q f. let h = l.torn e q f in at_fault k s l.sound e q (h.0 ∙ zero-add (length (joined l.sound))) h.1;
     }

@@ -76,11 +76,11 @@ pub laid_start : (was : List ℕ) (all : List (List ℕ)) (number : ℕ) → Lai
 laid_start was all number = record { done = []; split = refl; bytes = refl; count = omega arith; room = omega arith; holds = refl }
 
 -- what is answered when no more is written
-pub answered-done :
+pub answered_done :
     (number : ℕ) (done rest : List (List ℕ)) (was : List ℕ) → fitting (length was) (done ++ rest) ≡ done → (done ≡ [] → rest ≡ [])
     → (Ok (length (joined done), number + length done), joined done ++ drop (length (joined done)) was) ≡ lay_of number (done ++ rest) was
-answered-done number [] rest was fit end = rw (end refl) (ap (λ n. (Ok (0, n), was)) (omega arith))
-answered-done number (d ∷ ds) rest was fit end = sym (ap (λ ts. written number ((d ∷ ds) ++ rest) ts was) fit)
+answered_done number [] rest was fit end = rw (end refl) (ap (λ n. (Ok (0, n), was)) (omega arith))
+answered_done number (d ∷ ds) rest was fit end = sym (ap (λ ts. written number ((d ∷ ds) ++ rest) ts was) fit)
 
 module _ (was : List ℕ) (all rest : List (List ℕ)) (number at next : ℕ) (out : List ℕ) (l : Laid was all rest number at next out) where
   long : length out ≡ length was
@@ -102,7 +102,7 @@ module _ (was : List ℕ) (all rest : List (List ℕ)) (number at next : ℕ) (o
   pub laid_answer : fitting (length was - at) rest ≡ [] → (next ≡ number → rest ≡ []) → (Ok (at, next), out) ≡ lay_of number all was
   laid_answer none end =
       let fit = fitting_done (length was) (length was - at) l.done rest (omega (arith, l.bytes, l.room)) none in
-      let e = answered-done number l.done rest was fit (λ d. end (l.count ∙ ap (λ ts. number + length ts) d ∙ omega arith)) in
+      let e = answered_done number l.done rest was fit (λ d. end (l.count ∙ ap (λ ts. number + length ts) d ∙ omega arith)) in
       (λ i. (Ok (l.bytes i, l.count i), (l.holds ∙ ap (λ n. joined l.done ++ drop n was) l.bytes) i)) ∙ e ∙ ap (λ ts. lay_of number ts was) (sym l.split)
 
   pub laid_end : rest ≡ [] → (Ok (at, next), out) ≡ lay_of number all was

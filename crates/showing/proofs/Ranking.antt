@@ -94,15 +94,15 @@ single_first y d os j one low e =
     let z = one 0 (suc r.0) y refl r.1 in
     omega arith
 
-filled-single :
+filled_single :
     {A : Type 0} (os : List (Option A)) → Single os → (i j : ℕ) (d : A) → i < length (filled os) → j < length (filled os)
     → get_or (filled os) i d ≡ get_or (filled os) j d → i ≡ j
-filled-single [] one i j d a b e = absurd (omega arith)
-filled-single (None ∷ os) one i j d a b e = filled-single os (single_rest None os one) i j d a b e
-filled-single (Some y ∷ os) one zero zero d a b e = refl
-filled-single (Some y ∷ os) one zero (suc j) d a b e = absurd (single_first y d os j one (omega arith) e)
-filled-single (Some y ∷ os) one (suc i) zero d a b e = absurd (single_first y d os i one (omega arith) (sym e))
-filled-single (Some y ∷ os) one (suc i) (suc j) d a b e = ap suc (filled-single os (single_rest (Some y) os one) i j d (omega arith) (omega arith) e)
+filled_single [] one i j d a b e = absurd (omega arith)
+filled_single (None ∷ os) one i j d a b e = filled_single os (single_rest None os one) i j d a b e
+filled_single (Some y ∷ os) one zero zero d a b e = refl
+filled_single (Some y ∷ os) one zero (suc j) d a b e = absurd (single_first y d os j one (omega arith) e)
+filled_single (Some y ∷ os) one (suc i) zero d a b e = absurd (single_first y d os i one (omega arith) (sym e))
+filled_single (Some y ∷ os) one (suc i) (suc j) d a b e = ap suc (filled_single os (single_rest (Some y) os one) i j d (omega arith) (omega arith) e)
 
 module _ (m : Replica) (t : Store) where
   places_single : Single (places m t)
@@ -117,4 +117,4 @@ module _ (m : Replica) (t : Store) where
       omega (arith, same, order_ranked m i (cell s) a.0, order_ranked m j (cell s) b.0)
 
   pub board_once : (i j : ℕ) (d : Stmt (List ℕ)) → i < length (board_of m t) → j < length (board_of m t) → get_or (board_of m t) i d ≡ get_or (board_of m t) j d → i ≡ j
-  board_once i j d a b e = filled-single (places m t) places_single i j d a b e
+  board_once i j d a b e = filled_single (places m t) places_single i j d a b e

@@ -122,12 +122,12 @@ module _ (m : Replica) (c : Cell) where
   in_votes h = past_haves (has_append_right (run epochs at_finish) votes c h)
 
 module _ (m : Replica) (r : Stmt (List ℕ)) (j : ℕ) where
-  row-stands :
+  row_stands :
       (f : ℕ → ℕ → Cell) (st : ℕ → ℕ → List ℕ → Stmt (List ℕ)) (cells : Cells) (q s : ℕ)
       → ((x : List ℕ) → cell (st q s x) ≡ f q s) → ((x : List ℕ) → entry_stated (st q s x) ≡ Some x) → ((w : ℕ) (x : List ℕ) → unfit w (spoken (st q s x)) ≡ misfit w x)
       → (Has (rows m (f q s) f) (f q s) → Has (order m) (f q s))
       → row_cell m.set.n m.set.w cells (st q s) q s j ≡ Some r → Stands m (f q s) r
-  row-stands f st cells q s cell_of entry_of unfitOf lift e =
+  row_stands f st cells q s cell_of entry_of unfitOf lift e =
       let n = m.set.n in
       let W = m.set.w in
       let d = held_found (st q s) r _ _ e in
@@ -140,11 +140,11 @@ module _ (m : Replica) (r : Stmt (List ℕ)) (j : ℕ) where
         listed = lift (run_has (n * W) (by_slot W f) (q * W + s) (f q s) (row_index n W q s low inside) (λ i. f (div-mul-add q W s inside i) (mod-mul-add q W s inside i)));
       }
 
-  vote-stands :
+  vote_stands :
       {A : Type 0} (table : List Marks) (read : Marks → Option A) (st : A → Stmt (List ℕ)) (e k d : ℕ) → d < 4
       → ((x : A) → read (get_or table k unmarked) ≡ Some x → cell (st x) ≡ by_kind e k d) → ((w : ℕ) (x : A) → unfit w (spoken (st x)) ≡ oversize e)
       → vote_cell m table read st e k j ≡ Some r → Stands m (by_kind e k d) r
-  vote-stands table read st e k d low cell_of unfitOf is =
+  vote_stands table read st e k d low cell_of unfitOf is =
       let f = held_found st r _ _ is in
       let p = and_parts _ _ (and_parts _ _ f.holds).1 in
       let q = and_parts _ _ p.1 in
@@ -164,13 +164,13 @@ module _ (m : Replica) (r : Stmt (List ℕ)) (j : ℕ) where
         fits = λ w ok. ap (λ t. unfit w (spoken t)) (sym d.makes) ∙ entry_fits w d.part (ok d.part (ap entry_stated (sym d.makes)));
         listed = in_sends m (at_send s) (run_has m.set.w at_send s (at_send s) (ltb-true _ _ (and_parts _ _ d.holds).1) refl);
       }
-  stands t (at_echo q s) e = row-stands at_echo echo t.echoes q s (λ x. refl) (λ x. refl) (λ w x. refl) (λ h. past_sends m (at_echo q s) (has_append_left (rows m (at_echo q s) at_echo) (readies m (at_echo q s)) (at_echo q s) h)) e
-  stands t (at_ready q s) e = row-stands at_ready ready t.readies q s (λ x. refl) (λ x. refl) (λ w x. refl) (λ h. past_echoes m (at_ready q s) (has_append_left (rows m (at_ready q s) at_ready) (haves m (at_ready q s)) (at_ready q s) h)) e
-  stands t (at_have q s) e = row-stands at_have have t.haves q s (λ x. refl) (λ x. refl) (λ w x. refl) (λ h. past_readies m (at_have q s) (has_append_left (rows m (at_have q s) at_have) (ends m (at_have q s)) (at_have q s) h)) e
-  stands t (at_value e k false) is = vote-stands m.votes.values (value_in false j) (value e k) e k 0 (omega arith) (λ x h. ap (at_value e k) (held_same _ x false h)) (λ w x. refl) is
-  stands t (at_value e k true) is = vote-stands m.votes.values (value_in true j) (value e k) e k 1 (omega arith) (λ x h. ap (at_value e k) (held_same _ x true h)) (λ w x. refl) is
-  stands t (at_seen e k) is = vote-stands m.votes.seens (λ p. bit_of p j) (seen e k) e k 2 (omega arith) (λ x _. refl) (λ w x. refl) is
-  stands t (at_confirm e k) is = vote-stands m.votes.confirms (λ p. set_for p j) (confirm e k) e k 3 (omega arith) (λ x _. refl) (λ w x. refl) is
+  stands t (at_echo q s) e = row_stands at_echo echo t.echoes q s (λ x. refl) (λ x. refl) (λ w x. refl) (λ h. past_sends m (at_echo q s) (has_append_left (rows m (at_echo q s) at_echo) (readies m (at_echo q s)) (at_echo q s) h)) e
+  stands t (at_ready q s) e = row_stands at_ready ready t.readies q s (λ x. refl) (λ x. refl) (λ w x. refl) (λ h. past_echoes m (at_ready q s) (has_append_left (rows m (at_ready q s) at_ready) (haves m (at_ready q s)) (at_ready q s) h)) e
+  stands t (at_have q s) e = row_stands at_have have t.haves q s (λ x. refl) (λ x. refl) (λ w x. refl) (λ h. past_readies m (at_have q s) (has_append_left (rows m (at_have q s) at_have) (ends m (at_have q s)) (at_have q s) h)) e
+  stands t (at_value e k false) is = vote_stands m.votes.values (value_in false j) (value e k) e k 0 (omega arith) (λ x h. ap (at_value e k) (held_same _ x false h)) (λ w x. refl) is
+  stands t (at_value e k true) is = vote_stands m.votes.values (value_in true j) (value e k) e k 1 (omega arith) (λ x h. ap (at_value e k) (held_same _ x true h)) (λ w x. refl) is
+  stands t (at_seen e k) is = vote_stands m.votes.seens (λ p. bit_of p j) (seen e k) e k 2 (omega arith) (λ x _. refl) (λ w x. refl) is
+  stands t (at_confirm e k) is = vote_stands m.votes.confirms (λ p. set_for p j) (confirm e k) e k 3 (omega arith) (λ x _. refl) (λ w x. refl) is
   stands t (at_finish e) is =
       let d = found_held (finish e) r _ _ is in
       let low = ltb-true _ _ (and_parts _ _ d.holds).1 in

@@ -47,16 +47,16 @@ pub record Told (number : ℕ) (all ts : List (List ℕ)) (out : List ℕ) (k ne
   pub lies : after ≡ joined ts ++ drop k out
   pub some : 1 ≤ length all → 1 ≤ length ts
 
-written-told :
+written_told :
     (number : ℕ) (all ts : List (List ℕ)) (out : List ℕ) (k next : ℕ) (after : List ℕ) → length ts ≤ length all
     → written number all ts out ≡ (Ok (k, next), after) → Told number all ts out k next after
-written-told number [] [] out k next after few e =
+written_told number [] [] out k next after few e =
     let b : 0 ≡ k = ap (λ (p : Answer). (told p.0).0) e in
     let c : number ≡ next = ap (λ (p : Answer). (told p.0).1) e in
     record { size = sym b; ends = sym c ∙ omega arith; lies = sym (ap (λ (p : Answer). p.1) e) ∙ ap (λ j. drop j out) b; some = λ h. h }
-written-told number [] (t ∷ ts) out k next after few e = absurd (omega arith)
-written-told number (s ∷ ss) [] out k next after few e = absurd (let a = ap (λ (p : Answer). p.0) e in let z : ◌≡◌ {A = ℕ} 0 1 = cc in omega arith)
-written-told number (s ∷ ss) (t ∷ ts) out k next after few e =
+written_told number [] (t ∷ ts) out k next after few e = absurd (omega arith)
+written_told number (s ∷ ss) [] out k next after few e = absurd (let a = ap (λ (p : Answer). p.0) e in let z : ◌≡◌ {A = ℕ} 0 1 = cc in omega arith)
+written_told number (s ∷ ss) (t ∷ ts) out k next after few e =
     let b : length (joined (t ∷ ts)) ≡ k = ap (λ (p : Answer). (told p.0).0) e in
     let c : number + length (t ∷ ts) ≡ next = ap (λ (p : Answer). (told p.0).1) e in
     record { size = sym b; ends = sym c; lies = sym (ap (λ (p : Answer). p.1) e) ∙ ap (λ j. joined (t ∷ ts) ++ drop j out) b; some = λ _. omega arith }
@@ -80,7 +80,7 @@ module _ (m : Replica) (t : Store) (number : ℕ) (out : List ℕ) where
       let a = answered_laid (k, next) after e in
       let ts = fitting (length out) all in
       let f = fitting_front (length out) all in
-      let d = written-told number all ts out k next after f.few a.1 in
+      let d = written_told number all ts out k next after f.few a.1 in
       let long : length all ≡ length (board_of m t) - number = length-map (drop number (board_of m t)) spelled ∙ length-drop number (board_of m t) in
       let count : length ts ≡ next - number = omega (arith, d.ends) in
       let same : ts ≡ parts m t number next = f.first ∙ ap (λ n. take n all) count ∙ take-map spelled (next - number) (drop number (board_of m t)) in

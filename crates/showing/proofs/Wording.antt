@@ -14,9 +14,9 @@ item_front w out b x rest o long is have asked =
     ap (take w) is ∙ take_at b rest w long ∙ same
 
 -- a statement of the entry's bytes
-pub item-stated :
+pub item_stated :
     {K : Type 0} (b : K → List ℕ) (st : List ℕ → Message) (claim is : Claim K) (item x : List ℕ)
     → claim ≡ is → ((y : List ℕ) → entry_stated (claim_of b claim) ≡ Some y → item ≡ y)
     → entry_stated (claim_of b is) ≡ Some x → spoken (claim_of b is) ≡ st x → st item ≡ spoken (claim_of b claim)
-item-stated b st claim is item x e given has says =
+item_stated b st claim is item x e given has says =
     ap st (given x (ap (λ c. entry_stated (claim_of b c)) e ∙ has)) ∙ sym (ap (λ c. spoken (claim_of b c)) e ∙ says)

@@ -19,10 +19,10 @@ module _ (head tail out : List ℕ) where
       sym (rw a refl)
 
   -- the head was copied to the front, and the tail behind it
-  pub both-placed :
+  pub both_placed :
       (a b : List ℕ) → a ≡ head → b ≡ tail → length head + length tail ≤ length out
       → (Ok (length head + length tail), put_mid (length head) (length head + length tail - length head) (put_mid 0 (length head - 0) out a) b) ≡ placed None (head ++ tail) out
-  both-placed a b ea eb h =
+  both_placed a b ea eb h =
       let i = length head in
       let j = length tail in
       let n : length (head ++ tail) ≡ i + j = length-append head tail in
@@ -36,12 +36,12 @@ module _ (head tail out : List ℕ) where
       (λ k. (Ok (sym n k), (bytes ∙ ap (λ l. (head ++ tail) ++ l) behind) k)) ∙ sym (rw fits refl)
 
 -- what was placed stands at the front
-pub placed-front :
+pub placed_front :
     (P : List ℕ → Type 0) (o : Option ℕ) (bs out last : List ℕ) (r : Result ℕ Refusal)
     → (numbered r, last) ≡ placed o bs out → (o ≡ None → P bs) → IfOk r (λ n. P (take n last))
-placed-front P o bs out last (Err e) is has = tt
-placed-front P (Some e) bs out last (Ok n) is has = absurd (let f = ap (λ (p : Result ℕ ℕ × List ℕ). p.0) is in let z : ◌≡◌ {A = ℕ} 0 1 = cc in omega arith)
-placed-front P None bs out last (Ok n) is has = by (ltb (length out) (length bs)) refl
+placed_front P o bs out last (Err e) is has = tt
+placed_front P (Some e) bs out last (Ok n) is has = absurd (let f = ap (λ (p : Result ℕ ℕ × List ℕ). p.0) is in let z : ◌≡◌ {A = ℕ} 0 1 = cc in omega arith)
+placed_front P None bs out last (Ok n) is has = by (ltb (length out) (length bs)) refl
   where
     by : (t : Bool) → ltb (length out) (length bs) ≡ t → P (take n last)
     by true t = absurd (let f = ap (λ (p : Result ℕ ℕ × List ℕ). p.0) (rw t at is) in let z : ◌≡◌ {A = ℕ} 0 1 = cc in omega arith)

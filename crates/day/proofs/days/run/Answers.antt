@@ -9,7 +9,7 @@ returns-in-End g c =
     let k = g.K.Entry in
     let l = c.loop-text in
     let r : Run = (vec_items l.text, l.replica, store k.bytes l.tables) in
-    let is : cut_at c.args.day.now l.place ≡ end = sym c.part-at.ensures ∙ ap cut_of c.in-End.is in
+    let is : cut_at c.args.day.now l.place ≡ end = sym c.part_at.ensures ∙ ap cut_of c.in-End.is in
     over k.width k.valid c.args.day.now l.place l.invariant.0 r _ l.invariant.1 is
 
 pub returns-in-Torn : goal.returns-in-Torn
@@ -17,8 +17,8 @@ returns-in-Torn g c =
     let k = g.K.Entry in
     let l = c.loop-text in
     let r : Run = (vec_items l.text, l.replica, store k.bytes l.tables) in
-    let is : cut_at c.args.day.now l.place ≡ torn = sym c.part-at.ensures ∙ ap cut_of c.in-Torn.is in
-    ap (λ text. (text, l.replica, store k.bytes l.tables)) c.in-ok-push-torn.ensures
+    let is : cut_at c.args.day.now l.place ≡ torn = sym c.part_at.ensures ∙ ap cut_of c.in-Torn.is in
+    ap (λ text. (text, l.replica, store k.bytes l.tables)) c.in_ok-push_torn.ensures
     ∙ tears k.width k.valid c.args.day.now l.place l.invariant.0 r _ l.invariant.1 is
 
 pub loop-text-preserved : goal.loop-text-preserved
@@ -29,7 +29,7 @@ loop-text-preserved g c =
     let j = c.in-Whole.sender in
     let s = c.in-Whole.bytes.now in
     let r : Run = (vec_items l.text, l.replica, store k.bytes l.tables) in
-    let is : cut_at d l.place ≡ whole j s = sym c.part-at.ensures ∙ ap cut_of c.in-Whole.is in (
+    let is : cut_at d l.place ≡ whole j s = sym c.part_at.ensures ∙ ap cut_of c.in-Whole.is in (
       lies d l.place j s is,
-      passes k.width k.valid d l.place l.invariant.0 r _ l.invariant.1 j s _ is c.in-ok-take-in.ensures,
+      passes k.width k.valid d l.place l.invariant.0 r _ l.invariant.1 j s _ is c.in_ok-take_in.ensures,
     )

@@ -12,7 +12,7 @@ returns-in-Err g c =
     let k = g.K.Entry in
     let l = c.loop-found in
     let r : Run = (vec_items l.text, l.replica, store k.bytes l.tables) in
-    ap (λ text. (text, l.replica, store k.bytes l.tables)) c.in-ok-push-refused.ensures
+    ap (λ text. (text, l.replica, store k.bytes l.tables)) c.in_ok-push_refused.ensures
     ∙ stops k.width k.valid c.args.sender c.args.start c.args.frame.now l.place l.invariant.0 r _ l.invariant.1 (number_of c.in-Err.refusal) (sym c.in-Err.ensures.value)
 
 pub returns-in-default : goal.returns-in-default
@@ -41,5 +41,5 @@ loop-found-preserved g c =
     let r : Run = (vec_items l.text, l.replica, store k.bytes l.tables) in
     let next : next_of k.width frame l.place ≡ Ok (Some t) = sym c.in-Ok.ensures.value ∙ ap (λ o. Ok (option_map (λ x. x.now) o)) c.in-Some.is in (
       (inside k.width frame l.place l.invariant.0 t next).1,
-      goes k.width k.valid c.args.sender c.args.start frame l.place l.invariant.0 r _ l.invariant.1 t _ next c.in-ok-hear-at.ensures,
+      goes k.width k.valid c.args.sender c.args.start frame l.place l.invariant.0 r _ l.invariant.1 t _ next c.in_ok-hear_at.ensures,
     )

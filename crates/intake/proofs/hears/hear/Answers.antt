@@ -13,6 +13,6 @@ returns g c =
     let j = c.args.sender in
     let s = c.args.s.now in
     record {
-      value = c.take-in.ensures;
-      hears = subst (λ (p : Result (Unit {0}) ℕ × Replica × Store). Hears k.width k.valid m t j s p.0 p.1 p.2) (sym c.take-in.ensures) (hears_law k.width k.valid m t j s);
+      value = c.take_in.ensures;
+      hears = subst (λ (p : Result (Unit {0}) ℕ × Replica × Store). Hears k.width k.valid m t j s p.0 p.1 p.2) (sym c.take_in.ensures) (hears_law k.width k.valid m t j s);
     }

@@ -14,5 +14,5 @@ vacant-requires g c =
     record {
       lent = search rules;
       from = search rules;
-      ranged = (admitted k.valid m t c.args.sender (message_of c.in-ok-statement.statement) (claim_of k.bytes c.in-ok-claim.claim) (sym c.in-ok-claim.ensures)).0;
+      ranged = (admitted k.valid m t c.args.sender (message_of c.in_ok-statement.statement) (claim_of k.bytes c.in_ok-claim.claim) (sym c.in_ok-claim.ensures)).0;
     }

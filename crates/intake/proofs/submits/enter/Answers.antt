@@ -13,7 +13,7 @@ hold-requires g c =
     let m = c.args.replica.now in
     let t = store k.bytes c.args.tables.now in
     let s = c.args.s.now in
-    let f = offers k.width k.valid m t s (claim_of k.bytes c.in-ok-claim.claim) (sym c.in-ok-claim.ensures) in
+    let f = offers k.width k.valid m t s (claim_of k.bytes c.in_ok-claim.claim) (sym c.in_ok-claim.ensures) in
     record {
       lent = f.1.lent;
       from = m.set.own;

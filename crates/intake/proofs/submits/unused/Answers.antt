@@ -14,22 +14,22 @@ some : {K : Type 0} (bytes : K → List ℕ) (o : Option K) → is_some o ≡ tr
 some bytes None e = absurd (false≢true e)
 some bytes (Some k) e = (bytes k, refl)
 
-pub returns-then-is-none : goal.returns-then-is-none
-returns-then-is-none g c =
+pub returns-then-is_none : goal.returns-then-is_none
+returns-then-is_none g c =
     let b = g.K.Entry.bytes in
     let m = c.args.replica.now in
     let t = store b c.args.tables.now in
     sym (first_hit _ m.set.w c.loop-slot.slot c.loop-slot.slot c.loop-slot-test.true c.loop-slot.invariant
-    (slot_free m t c.loop-slot.slot c.loop-slot-test.true (ap (λ i. get_or t.sends i None) (sym c.slot-place.ensures.value) ∙ sym c.get.ensures ∙ none b c.get.result c.if-is-none.ensures)))
+    (slot_free m t c.loop-slot.slot c.loop-slot-test.true (ap (λ i. get_or t.sends i None) (sym c.slot_place.ensures.value) ∙ sym c.get.ensures ∙ none b c.get.result c.if-is_none.ensures)))
 
 pub loop-slot-preserved : goal.loop-slot-preserved
 loop-slot-preserved g c =
     let b = g.K.Entry.bytes in
     let m = c.args.replica.now in
     let t = store b c.args.tables.now in
-    let x = some b c.get.result c.if-is-none.ensures in
+    let x = some b c.get.result c.if-is_none.ensures in
     first_on _ c.loop-slot.slot c.loop-slot.invariant
-    (slot_used m t c.loop-slot.slot c.loop-slot-test.true x.0 (ap (λ i. get_or t.sends i None) (sym c.slot-place.ensures.value) ∙ sym c.get.ensures ∙ x.1))
+    (slot_used m t c.loop-slot.slot c.loop-slot-test.true x.0 (ap (λ i. get_or t.sends i None) (sym c.slot_place.ensures.value) ∙ sym c.get.ensures ∙ x.1))
 
 pub loop-slot-init : goal.loop-slot-init
 loop-slot-init g c = first_start _

@@ -3,4 +3,4 @@ use Rattle.listing.proofs.Growing.{then_more}
 use Rattle.listing.proofs.cells.push_word.Goals as goal
 
 pub returns : goal.returns
-returns c = then_more (vec_items c.args.out.now) (59 ∷ []) c.args.word.now c.in-ok-push.ensures.items c.in-ok-extend-from-slice.ensures.items
+returns c = then_more (vec_items c.args.out.now) (59 ∷ []) c.args.word.now c.in_ok-push.ensures.items c.in_ok-extend_from_slice.ensures.items

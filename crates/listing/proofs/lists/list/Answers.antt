@@ -33,7 +33,7 @@ returns-then-not-branch g c =
     let place = c.loop-found.place in
     let t = c.in-Some.part.now in
     let next = sym c.in-Ok.ensures.value ∙ ap (λ o. Ok (option_map (λ x. x.now) o)) c.in-Some.is in
-    let none = no_row (part_row (kind g) place t) _ _ (vec_items c.loop-found.rows) c.in-ok-push-row.ensures c.if-not-branch.true in
+    let none = no_row (part_row (kind g) place t) _ _ (vec_items c.loop-found.rows) c.in_ok-push_row.ensures c.if-not-branch.true in
     ap (λ rows. record { rows = rows; count = c.loop-found.count; fault = Some (number_of refusals.Entry, place) }) none.1
     ∙ sym (at_none (kind g) c.args.frame.now place c.loop-found.invariant.0 (vec_items c.loop-found.rows) c.loop-found.count t next none.0)
     ∙ c.loop-found.invariant.2
@@ -52,7 +52,7 @@ loop-found-preserved g c =
     let place = c.loop-found.place in
     let t = c.in-Some.part.now in
     let next : next_of g.K.Entry.width frame place ≡ Ok (Some t) = sym c.in-Ok.ensures.value ∙ ap (λ o. Ok (option_map (λ x. x.now) o)) c.in-Some.is in
-    let one = one_row (part_row (kind g) place t) _ _ (vec_items c.loop-found.rows) c.in-ok-push-row.ensures c.if-not-branch.false in (
+    let one = one_row (part_row (kind g) place t) _ _ (vec_items c.loop-found.rows) c.in_ok-push_row.ensures c.if-not-branch.false in (
       within (kind g) frame place c.loop-found.invariant.0 t next,
       omega (arith, c.loop-found.invariant.1, (piece (kind g) frame place c.loop-found.invariant.0 t next).some),
       ap (λ rows. behind rows (c.loop-found.count + 1) (rest (kind g) frame (place + length t))) one.2

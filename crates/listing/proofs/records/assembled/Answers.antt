@@ -13,11 +13,11 @@ whole a b c d ei ej ek el em =
 
 pub returns : goal.returns
 returns g c =
-    let l = c.in-ok-listing.listing in
+    let l = c.in_ok-listing.listing in
     let title : ℕ → List ℕ = note_of (codes "frame") (length c.args.frame.now) in
     let heading = heading_of g.K.Entry.heading in
-    let rows = c.as-slice.ensures.value in
+    let rows = c.as_slice.ensures.value in
     whole (title l.count) heading (vec_items l.rows) (fault_of (fault_in l.fault))
-    c.new-out.ensures.items c.in-ok-push-note.ensures c.in-ok-push-heading.ensures
-    (c.in-ok-extend-from-slice.ensures.items ∙ ap (λ x. vec_items c.push-heading.new.out ++ x) rows) c.in-ok-push-fault.ensures
-    ∙ ap (λ (m : Listed). title m.count ++ (heading ++ (m.rows ++ fault_of m.fault))) c.in-ok-listing.ensures
+    c.new-out.ensures.items c.in_ok-push_note.ensures c.in_ok-push_heading.ensures
+    (c.in_ok-extend_from_slice.ensures.items ∙ ap (λ x. vec_items c.push_heading.new.out ++ x) rows) c.in_ok-push_fault.ensures
+    ∙ ap (λ (m : Listed). title m.count ++ (heading ++ (m.rows ++ fault_of m.fault))) c.in_ok-listing.ensures

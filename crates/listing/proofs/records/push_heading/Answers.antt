@@ -8,6 +8,6 @@ returns g c =
     let front = codes "place;letter;says;queue;slot;epoch;round;bit;set;" in
     let names = g.K.Entry.heading in
     then_more was (front ++ names) (10 ∷ [])
-    (then_more was front names c.in-ok-extend-from-slice.ensures.items (c.in-ok-extend-from-slice-2.ensures.items ∙ ap (λ l. vec_items c.extend-from-slice.new.self ++ l) c.names.ensures))
-    c.in-ok-push.ensures.items
+    (then_more was front names c.in_ok-extend_from_slice.ensures.items (c.in_ok-extend_from_slice-2.ensures.items ∙ ap (λ l. vec_items c.extend_from_slice.new.self ++ l) c.names.ensures))
+    c.in_ok-push.ensures.items
     ∙ ap (λ l. was ++ l) (append_assoc front names (10 ∷ []))

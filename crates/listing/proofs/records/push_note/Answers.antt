@@ -13,4 +13,4 @@ note was a b c d hi hj hk hl =
 pub returns : goal.returns
 returns c =
     note (vec_items c.args.out.now) c.args.word.now (59 ∷ decimal c.args.a) (59 ∷ decimal c.args.b) (10 ∷ [])
-    c.in-ok-extend-from-slice.ensures.items c.in-ok-push-cell.ensures c.in-ok-push-cell-2.ensures c.in-ok-push.ensures.items
+    c.in_ok-extend_from_slice.ensures.items c.in_ok-push_cell.ensures c.in_ok-push_cell-2.ensures c.in_ok-push.ensures.items

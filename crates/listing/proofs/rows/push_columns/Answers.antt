@@ -8,6 +8,6 @@ pub loop-i-preserved : goal.loop-i-preserved
 loop-i-preserved g c =
     let was = vec_items c.args.out.now in
     let ns = numbers_of g.K.Entry.columns (option_map g.K.Entry.bytes c.args.entry) in
-    then_more was _ _ c.loop-i.invariant c.in-ok-push-cell.ensures
+    then_more was _ _ c.loop-i.invariant c.in_ok-push_cell.ensures
     ∙ ap (λ o. was ++ (following (map text_of (padded c.loop-i.i ns)) ++ (59 ∷ text_of o))) c.column.ensures
     ∙ ap (λ l. was ++ l) (sym (following_padded ns c.loop-i.i))

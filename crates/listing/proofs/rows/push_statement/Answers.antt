@@ -30,5 +30,5 @@ returns g c =
     (ap (λ t. 59 ∷ t) (c.says.ensures ∙ ap says_of c.letter-2.ensures))
     (ap (λ o. following (map text_of o)) c.operands.ensures)
     (ap (λ o. following (map text_of (padded blanks (numbers_of kind.columns o)))) c.requires)
-    c.in-ok-push-number.ensures c.in-ok-push-word.ensures c.in-ok-push-word-2.ensures
-    c.in-ok-push-cells.ensures c.in-ok-push-columns.ensures c.in-ok-push.ensures.items
+    c.in_ok-push_number.ensures c.in_ok-push_word.ensures c.in_ok-push_word-2.ensures
+    c.in_ok-push_cells.ensures c.in_ok-push_columns.ensures c.in_ok-push.ensures.items

@@ -11,4 +11,4 @@ returns g c =
     let book = leading (map (option_map (paged e.bytes)) c.args.pages.now) in
     let count = c.digits-2.ensures.value ∙ ap (λ k. length (decimal k)) c.filled.ensures in
     let names = ap length c.names.ensures in
-    omega (arith, c.digits.ensures.value, count, names, c.lines-len.ensures.value, file_long e.heading e.columns c.args.n book, opening_long c.args.n (length book), names_long e.heading)
+    omega (arith, c.digits.ensures.value, count, names, c.lines_len.ensures.value, file_long e.heading e.columns c.args.n book, opening_long c.args.n (length book), names_long e.heading)

@@ -13,11 +13,11 @@ returns-then-not-fit g c =
       grid = tt;
     }
 
-pub file-len-requires : goal.file-len-requires
-file-len-requires g c = c.counted-pages.ensures.few
+pub file_len-requires : goal.file_len-requires
+file_len-requires g c = c.counted-pages.ensures.few
 
-pub returns-then-out-file-len : goal.returns-then-out-file-len
-returns-then-out-file-len g c =
+pub returns-then-out-file_len : goal.returns-then-out-file_len
+returns-then-out-file_len g c =
     let e = g.K.Entry in
     let m = c.args.replica.now in
     let cells = c.counted-pages.result.now in
@@ -25,12 +25,12 @@ returns-then-out-file-len g c =
     let is = book_is e.bytes m c.args.tables.now cells c.counted-pages.ensures.value in
     record {
       value = print_long e.heading e.columns m (store e.bytes c.args.tables.now) c.args.out.now c.if-not-fit.ensures book is
-          c.file-len.result c.file-len.ensures c.if-out-file-len.true;
+          c.file_len.result c.file_len.ensures c.if-out-file_len.true;
       grid = tt;
     }
 
-pub put-file-requires : goal.put-file-requires
-put-file-requires g c = record { few = c.counted-pages.ensures.few; room = omega (arith, c.file-len.ensures, c.if-out-file-len.false) }
+pub put_file-requires : goal.put_file-requires
+put_file-requires g c = record { few = c.counted-pages.ensures.few; room = omega (arith, c.file_len.ensures, c.if-out-file_len.false) }
 
 pub returns : goal.returns
 returns g c =
@@ -41,6 +41,6 @@ returns g c =
     let book = leading (map (option_map (paged e.bytes)) cells) in
     let is = book_is e.bytes m c.args.tables.now cells c.counted-pages.ensures.value in
     record {
-      value = print_done e.heading e.columns m t c.args.out.now c.if-not-fit.ensures book is c.put-file.result c.put-file.new.out c.put-file.ensures;
-      grid = print_grid e.heading e.columns m t c.args.out.now c.if-not-fit.ensures book is c.put-file.result c.put-file.new.out c.put-file.ensures;
+      value = print_done e.heading e.columns m t c.args.out.now c.if-not-fit.ensures book is c.put_file.result c.put_file.new.out c.put_file.ensures;
+      grid = print_grid e.heading e.columns m t c.args.out.now c.if-not-fit.ensures book is c.put_file.result c.put_file.new.out c.put_file.ensures;
     }

@@ -8,8 +8,8 @@ use Rattle.printing.proofs.lines.put_columns.Goals as goal
 pub loop-n-init : goal.loop-n-init
 loop-n-init g c = start c.args.out.now (cells_of (g.K.Entry.columns (g.K.Entry.bytes c.args.x.now))) c.args.at c.requires
 
-pub put-cell-end-requires : goal.put-cell-end-requires
-put-cell-end-requires g c =
+pub put_cell-end-requires : goal.put_cell-end-requires
+put_cell-end-requires g c =
     let ns = g.K.Entry.columns (g.K.Entry.bytes c.args.x.now) in
     let i = c.loop-n.i in
     let one = next ns i c.in-Some.n c.in-Some.ensures in
@@ -29,7 +29,7 @@ loop-n-preserved g c =
     let ns = g.K.Entry.columns (g.K.Entry.bytes c.args.x.now) in
     let i = c.loop-n.i in
     let one = next ns i c.in-Some.n c.in-Some.ensures in
-    on (cell_of c.in-Some.n) (cells_of (drop (i + 1) ns)) (ap cells_of one.is) c.loop-n.invariant c.put-cell-end.ensures
+    on (cell_of c.in-Some.n) (cells_of (drop (i + 1) ns)) (ap cells_of one.is) c.loop-n.invariant c.put_cell-end.ensures
 
 pub returns : goal.returns
 returns g c =

@@ -20,7 +20,7 @@ loop-cell-preserved g c =
     let p = paged e.bytes c.in-Some.page in
     let more = at_page (paged e.bytes) cells i c.cell-item.result c.in-Some.page c.loop-cell-test.true c.cell-item.is c.in-Some.is in
     let long = ap (λ ps. length (lines_of e.columns ps)) more ∙ length-append (line_of e.columns p) (lines_of e.columns (leading (map (option_map (paged e.bytes)) (drop (i + 1) cells)))) in
-    (omega (arith, c.loop-cell.invariant), omega (arith, c.loop-cell.invariant, c.line-len-len.ensures.value, long))
+    (omega (arith, c.loop-cell.invariant), omega (arith, c.loop-cell.invariant, c.line_len-len.ensures.value, long))
 
 pub returns : goal.returns
 returns g c =

@@ -18,8 +18,8 @@ returns-in-default g c =
     let end = at_none (paged e.bytes) c.args.pages.now c.loop-cell.cell-index c.cell-item.result c.loop-cell-test.true c.cell-item.is c.in-default.is in
     over (ap (lines_of e.columns) end) c.loop-cell.invariant
 
-pub put-line-end-requires : goal.put-line-end-requires
-put-line-end-requires g c =
+pub put_line-end-requires : goal.put_line-end-requires
+put_line-end-requires g c =
     let e = g.K.Entry in
     let cells = c.args.pages.now in
     let i = c.loop-cell.cell-index in
@@ -34,7 +34,7 @@ loop-cell-preserved g c =
     let i = c.loop-cell.cell-index in
     let more = at_page (paged e.bytes) cells i c.cell-item.result c.in-Some.page c.loop-cell-test.true c.cell-item.is c.in-Some.is in
     on (line_of e.columns (paged e.bytes c.in-Some.page)) (lines_of e.columns (leading (map (option_map (paged e.bytes)) (drop (i + 1) cells))))
-    (ap (lines_of e.columns) more) c.loop-cell.invariant c.put-line-end.ensures
+    (ap (lines_of e.columns) more) c.loop-cell.invariant c.put_line-end.ensures
 
 pub returns : goal.returns
 returns g c =

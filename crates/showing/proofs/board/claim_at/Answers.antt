@@ -7,37 +7,37 @@ pub returns-then-i-w : goal.returns-then-i-w
 returns-then-i-w g c =
     let m = c.args.replica.now in
     let t = store g.K.Entry.bytes c.args.tables.now in
-    c.send-at.ensures ∙ sym (send_place m t c.args.i c.if-i-w.true)
+    c.send_at.ensures ∙ sym (send_place m t c.args.i c.if-i-w.true)
 
 pub returns-then-i-rows : goal.returns-then-i-rows
 returns-then-i-rows g c =
     let m = c.args.replica.now in
     let t = store g.K.Entry.bytes c.args.tables.now in
-    c.echo-at.ensures ∙ sym (echo_place m t c.args.i c.if-i-w.false c.if-i-rows.true)
+    c.echo_at.ensures ∙ sym (echo_place m t c.args.i c.if-i-w.false c.if-i-rows.true)
 
 pub returns-then-i-rows-2 : goal.returns-then-i-rows-2
 returns-then-i-rows-2 g c =
     let m = c.args.replica.now in
     let t = store g.K.Entry.bytes c.args.tables.now in
-    c.ready-at.ensures ∙ sym (ready_place m t c.args.i c.if-i-w.false c.if-i-rows.false c.if-i-rows-2.true)
+    c.ready_at.ensures ∙ sym (ready_place m t c.args.i c.if-i-w.false c.if-i-rows.false c.if-i-rows-2.true)
 
 pub returns-then-i-rows-3 : goal.returns-then-i-rows-3
 returns-then-i-rows-3 g c =
     let m = c.args.replica.now in
     let t = store g.K.Entry.bytes c.args.tables.now in
-    c.have-at.ensures ∙ sym (have_place m t c.args.i c.if-i-w.false c.if-i-rows.false c.if-i-rows-2.false c.if-i-rows-3.true)
+    c.have_at.ensures ∙ sym (have_place m t c.args.i c.if-i-w.false c.if-i-rows.false c.if-i-rows-2.false c.if-i-rows-3.true)
 
 pub returns-then-i-epochs : goal.returns-then-i-epochs
 returns-then-i-epochs g c =
     let m = c.args.replica.now in
     let t = store g.K.Entry.bytes c.args.tables.now in
-    c.finish-at.ensures t ∙ sym (finish_place m t c.args.i c.if-i-w.false c.if-i-rows.false c.if-i-rows-2.false c.if-i-rows-3.false c.if-i-epochs.true)
+    c.finish_at.ensures t ∙ sym (finish_place m t c.args.i c.if-i-w.false c.if-i-rows.false c.if-i-rows-2.false c.if-i-rows-3.false c.if-i-epochs.true)
 
-pub vote-at-requires : goal.vote-at-requires
-vote-at-requires g c = omega (arith, c.requires.low, length_places c.args.replica.now (store g.K.Entry.bytes c.args.tables.now))
+pub vote_at-requires : goal.vote_at-requires
+vote_at-requires g c = omega (arith, c.requires.low, length_places c.args.replica.now (store g.K.Entry.bytes c.args.tables.now))
 
 pub returns : goal.returns
 returns g c =
     let m = c.args.replica.now in
     let t = store g.K.Entry.bytes c.args.tables.now in
-    c.vote-at.ensures t ∙ sym (vote_place m t c.args.i c.if-i-w.false c.if-i-rows.false c.if-i-rows-2.false c.if-i-rows-3.false c.if-i-epochs.false (omega (arith, c.requires.low, length_places m t)))
+    c.vote_at.ensures t ∙ sym (vote_place m t c.args.i c.if-i-w.false c.if-i-rows.false c.if-i-rows-2.false c.if-i-rows-3.false c.if-i-epochs.false (omega (arith, c.requires.low, length_places m t)))

@@ -12,5 +12,5 @@ returns g c =
     let is : parse_of w s ≡ Ok m = search rules in
     record {
       value = sym is;
-      back = λ out. (λ i. placed (read_fits w s m (λ i. (c.type-inv.s i).fits) is i) (read_written w s m is i) out);
+      back = λ out. (λ i. placed (read_fits w s m (λ i. (c.type_inv.s i).fits) is i) (read_written w s m is i) out);
     }

@@ -1,5 +1,5 @@
 use Rattle.std.proofs.Common.{arith}
-use Rattle.wire.proofs.Placing.{no_room, both-placed}
+use Rattle.wire.proofs.Placing.{no_room, both_placed}
 use Rattle.wire.proofs.writer.put_both.Goals as goal
 use Rattle.wire.proofs.writer.put_both.Goals.{then-out-at-via-then-out-at, then-out-at-via-else-out-at+then-out-at-2}
 
@@ -9,5 +9,5 @@ returns-then-out-at c = no_room c.args.head.now c.args.tail.now c.args.out.now
 
 pub returns : goal.returns
 returns c =
-    both-placed c.args.head.now c.args.tail.now c.args.out.now _ _
-    c.copy-from-slice.ensures.after c.copy-from-slice-2.ensures.after (omega arith)
+    both_placed c.args.head.now c.args.tail.now c.args.out.now _ _
+    c.copy_from_slice.ensures.after c.copy_from_slice-2.ensures.after (omega arith)

@@ -31,17 +31,17 @@ no-close s k e = grind (arith, nat_tests)
 pub returns-in-1 : goal.returns-in-1
 returns-in-1 c =
     let s = c.args.s.now in
-    let from = c.in-Some.ensures ∙ c.from-be-bytes.ensures in
-    let to = c.from-be-bytes-to.ensures in
-    let amount = c.from-be-bytes-amount.ensures in
-    tried s (search rules) (λ i. (c.type-inv.s i).fits) _ (sym c.in-1.is) from to amount _
+    let from = c.in-Some.ensures ∙ c.from_be_bytes.ensures in
+    let to = c.from_be_bytes-to.ensures in
+    let amount = c.from_be_bytes-amount.ensures in
+    tried s (search rules) (λ i. (c.type_inv.s i).fits) _ (sym c.in-1.is) from to amount _
     (λ e. no-gift s c.in-1.is (sym (λ i. is_gift (from i) (to i) (amount i)) ∙ e)) _ c.give.ensures
 
 pub returns-in-2 : goal.returns-in-2
 returns-in-2 c =
     let s = c.args.s.now in
-    let from = c.in-Some.ensures ∙ c.from-be-bytes.ensures in
-    let to = c.from-be-bytes-to.ensures in
-    let amount = c.from-be-bytes-amount.ensures in
-    tried s (search rules) (λ i. (c.type-inv.s i).fits) _ (sym c.in-2.is) from to amount _
+    let from = c.in-Some.ensures ∙ c.from_be_bytes.ensures in
+    let to = c.from_be_bytes-to.ensures in
+    let amount = c.from_be_bytes-amount.ensures in
+    tried s (search rules) (λ i. (c.type_inv.s i).fits) _ (sym c.in-2.is) from to amount _
     (λ e. no-close s c.in-2.is (sym (λ i. is_close (to i) (amount i)) ∙ e)) _ c.close.ensures

@@ -6,9 +6,9 @@ use Rattle.entry.proofs.readings.ReadingEntry.read.Goals as goal
 pub returns : goal.returns
 returns c =
     let s = c.args.s.now in
-    let small : (i : ℕ) → byte s i < 256 = λ i. (c.type-inv.s i).fits in
-    let amount = word_back s small 4 _ [] c.from-be-bytes-amount.ensures in
+    let small : (i : ℕ) → byte s i < 256 = λ i. (c.type_inv.s i).fits in
+    let amount = word_back s small 4 _ [] c.from_be_bytes-amount.ensures in
     let quantity = c.in-Some-new.ensures in
-    pair_back s small 0 _ _ (c.in-Some.ensures ∙ c.from-be-bytes.ensures)
+    pair_back s small 0 _ _ (c.in-Some.ensures ∙ c.from_be_bytes.ensures)
     ∙ (λ i. byte s 0 ∷ byte s 1 ∷ byte s 2 ∷ quantity i ∷ amount i)
     ∙ sym (spelled 8 s (search rules))

@@ -7,7 +7,7 @@ pub returns : goal.returns
 returns g c =
     let t = store g.K.Entry.bytes c.args.self.now in
     let slots = c.slots-slots.ensures in
-    let rows = c.row-cells-rows.ensures in
+    let rows = c.row_cells-rows.ensures in
     let sends = c.clear.ensures ∙ ap (λ k. emptied k t.sends) slots in
     let echoes = c.clear-2.ensures ∙ ap (λ k. emptied k t.echoes) rows in
     let readies = c.clear-3.ensures ∙ ap (λ k. emptied k t.readies) rows in

@@ -8,14 +8,14 @@ use Rattle.replica.proofs.Wiping.{wiped}
 use Rattle.replica.proofs.Freshness.{fresh_begins}
 use Rattle.replica.proofs.state.Replica.make.Goals as goal
 
-pub returns-in-err-set : goal.returns-in-err-set
-returns-in-err-set g c =
+pub returns-in_err-set : goal.returns-in_err-set
+returns-in_err-set g c =
     let t = store g.K.Entry.bytes c.args.tables.now in
     let p = err_from_is_err_and c.from-residual.result c.from-residual.ensures.1 in
     record {
       value =
           ap (λ r. (answered plain r, t)) (p.1 ∙ ap Err p.2)
-          ∙ make_declined c.args.n c.args.me c.args.w t _ c.in-err-set.ensures;
+          ∙ make_declined c.args.n c.args.me c.args.w t _ c.in_err-set.ensures;
       wiped = IfOk-from_err c.from-residual.result _ (ap is_err p.1);
       begins = IfOk-from_err c.from-residual.result _ (ap is_err p.1);
     }
@@ -23,9 +23,9 @@ returns-in-err-set g c =
 pub returns-then-not-fit : goal.returns-then-not-fit
 returns-then-not-fit g c =
     let t = store g.K.Entry.bytes c.args.tables.now in
-    let s = numbers c.in-ok-set.set in
+    let s = numbers c.in_ok-set.set in
     record {
-      value = make_short c.args.n c.args.me c.args.w t s c.in-ok-set.ensures c.if-not-fit.ensures;
+      value = make_short c.args.n c.args.me c.args.w t s c.in_ok-set.ensures c.if-not-fit.ensures;
       wiped = tt;
       begins = tt;
     }
@@ -35,13 +35,13 @@ returns g c =
     let t = store g.K.Entry.bytes c.args.tables.now in
     let n = c.args.n in
     let w = c.args.w in
-    let s = numbers c.in-ok-set.set in
+    let s = numbers c.in_ok-set.set in
     let long = c.if-not-fit.ensures in
     let wiped-now = subst (Wiped n w t) (sym c.clear.ensures) (wiped n w t (sym long)) in
     record {
       value =
           (λ i. (Ok (c.fresh.ensures i), c.clear.ensures i))
-          ∙ make_fresh n c.args.me w t s c.in-ok-set.ensures long;
+          ∙ make_fresh n c.args.me w t s c.in_ok-set.ensures long;
       wiped = wiped-now;
-      begins = fresh_begins c.fresh.result n c.args.me w s t (store g.K.Entry.bytes c.clear.new.self) c.fresh.ensures c.in-ok-set.ensures wiped-now;
+      begins = fresh_begins c.fresh.result n c.args.me w s t (store g.K.Entry.bytes c.clear.new.self) c.fresh.ensures c.in_ok-set.ensures wiped-now;
     }

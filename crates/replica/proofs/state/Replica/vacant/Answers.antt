@@ -14,7 +14,7 @@ returns-in-Confirm g c =
     let m = c.args.self.now in
     let t = store b c.args.tables.now in
     let u = bits_of c.in-Confirm.set in
-    c.settle-set.ensures
+    c.settle_set.ensures
     ∙ ap (λ p. settled sets_same (set_of p.0 p.1) u) c.set.ensures
     ∙ confirm_vacant m t c.args.sender c.in-Confirm.epoch c.in-Confirm.round u c.requires.from (ap (λ x. ranged (plan m) (box m t) (claim_of b x)) (sym c.in-Confirm.is) ∙ c.requires.ranged)
     ∙ ap (λ x. vacant_of m t c.args.sender (claim_of b x)) (sym c.in-Confirm.is)

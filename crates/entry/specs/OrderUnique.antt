@@ -1,15 +1,16 @@
-use Rattle.std.proofs.Common.{◌≡◌, suc, ◌^◌, ◌<◌, ap, arith}
+-- Orders are told apart by their bytes.
+use Rattle.std.specs.Prelude.{◌≡◌, suc, ◌^◌, ◌<◌}
+use Rattle.std.proofs.Common.{ap, arith}
 use mathlib.Core.HLevel.{is_prop→PathP, ¬_prop}
-use Rattle.entry.specs.Orders.{fields_of}
+use Rattle.entry.specs.Orders.{fields_of, order_bytes}
 use Rattle.entry.specs.declared.order.Gift.{Gift}
 use Rattle.entry.specs.declared.order.ShareOrder.{ShareOrder}
 use Rattle.entry.specs.declared.order.ShareOrder.TheVariants.{Give, Close}
-use Rattle.entry.specs.Bytes.{pair_unique, word-unique}
+use Rattle.entry.specs.Bytes.{pair_unique, word_unique}
 use Rattle.entry.specs.OneHouse.{house_same, le_path}
-use Rattle.entry.proofs.orders.ShareOrderEntry.TheImpl.Goals as goal
 
-gift-same : (a b : Gift) → a.from.number ≡ b.from.number → a.to.number ≡ b.to.number → a.amount ≡ b.amount → a ≡ b
-gift-same a b f t amount =
+gift_same : (a b : Gift) → a.from.number ≡ b.from.number → a.to.number ≡ b.to.number → a.amount ≡ b.amount → a ≡ b
+gift_same a b f t amount =
     let from = house_same a.from b.from f in
     let to = house_same a.to b.to t in
     λ i. record {
@@ -22,11 +23,11 @@ gift-same a b f t amount =
     }
 
 -- orders are told apart by their fields
-same-fields : (x y : ShareOrder) → (fields_of x).0 ≡ (fields_of y).0 → (fields_of x).1 ≡ (fields_of y).1 → (fields_of x).2 ≡ (fields_of y).2 → (fields_of x).3 ≡ (fields_of y).3 → x ≡ y
-same-fields (Give a) (Give b) k f t n = ap Give (gift-same a b f t n)
-same-fields (Close a) (Close b) k f t n = ap Close (house_same a b f)
-same-fields (Give a) (Close b) k f t n = absurd (omega arith)
-same-fields (Close a) (Give b) k f t n = absurd (omega arith)
+same_fields : (x y : ShareOrder) → (fields_of x).0 ≡ (fields_of y).0 → (fields_of x).1 ≡ (fields_of y).1 → (fields_of x).2 ≡ (fields_of y).2 → (fields_of x).3 ≡ (fields_of y).3 → x ≡ y
+same_fields (Give a) (Give b) k f t n = ap Give (gift_same a b f t n)
+same_fields (Close a) (Close b) k f t n = ap Close (house_same a b f)
+same_fields (Give a) (Close b) k f t n = absurd (omega arith)
+same_fields (Close a) (Give b) k f t n = absurd (omega arith)
 
 pub record Small (x : ShareOrder) : Type 0 where
   pub from : (fields_of x).1 < 65536
@@ -37,11 +38,11 @@ small : (x : ShareOrder) → Small x
 small (Give g) = record { from = omega (arith, g.from.most); to = omega (arith, g.to.most); amount = g.word }
 small (Close h) = record { from = omega (arith, h.most); to = omega arith; amount = omega arith }
 
-pub unique-law : goal.unique-law
-unique-law x y e =
+pub order_unique : (x y : ShareOrder) → order_bytes x ≡ order_bytes y → x ≡ y
+order_unique x y e =
     let a = small x in
     let b = small y in
-    same-fields x y (cc)
+    same_fields x y (cc)
     (pair_unique (fields_of x).1 (fields_of y).1 a.from b.from (cc) (cc))
     (pair_unique (fields_of x).2 (fields_of y).2 a.to b.to (cc) (cc))
-    (word-unique (fields_of x).3 (fields_of y).3 a.amount b.amount (cc) (cc) (cc) (cc))
+    (word_unique (fields_of x).3 (fields_of y).3 a.amount b.amount (cc) (cc) (cc) (cc))
