@@ -7,7 +7,7 @@ use entry::Entry;
 
 // Whether a cell holds the entry.
 pub fn holds<K: Entry>(cell: &Option<K>, x: &K) -> bool
-    ensures { result ≡ holds (bytes x.now) (option_map bytes cell.now) }
+    ensures { result ≡ holds (K.bytes x.now) (option_map K.bytes cell.now) }
 {
     match cell {
         Some(y) => y.same(x),
@@ -17,7 +17,7 @@ pub fn holds<K: Entry>(cell: &Option<K>, x: &K) -> bool
 
 // How many senders hold the entry.
 pub fn standing<K: Entry>(cells: &[Option<K>], x: &K) -> usize
-    ensures { result ≡ standing (map (option_map bytes) cells.now) (bytes x.now) }
+    ensures { result ≡ standing (map (option_map K.bytes) cells.now) (K.bytes x.now) }
 {
     let mut senders = 0;
     for (_sender, cell) in cells.iter().enumerate() {
@@ -30,7 +30,7 @@ pub fn standing<K: Entry>(cells: &[Option<K>], x: &K) -> usize
 
 // The entry of the lowest sender whose entry at least so many hold.
 pub fn lowest<K: Entry>(cells: &[Option<K>], least: usize) -> Option<K>
-    ensures { option_map bytes result ≡ lowest_in least (map (option_map bytes) cells.now) }
+    ensures { option_map K.bytes result ≡ lowest_in least (map (option_map K.bytes) cells.now) }
 {
     for (_sender, cell) in cells.iter().enumerate() {
         if let Some(x) = cell {

@@ -8,7 +8,7 @@ use entry::Entry;
 // What is held in a cell.
 pub fn read<K: Entry>(cells: &[Option<K>], at: usize) -> Option<K>
     requires { at < length cells.now }
-    ensures { option_map bytes result ≡ slice_index_or (map (option_map bytes) cells.now) at None }
+    ensures { option_map K.bytes result ≡ slice_index_or (map (option_map K.bytes) cells.now) at None }
 {
     cells[at]
 }
@@ -16,7 +16,7 @@ pub fn read<K: Entry>(cells: &[Option<K>], at: usize) -> Option<K>
 // Holds an entry in a cell.
 pub fn fill<K: Entry>(cells: &mut [Option<K>], at: usize, k: K)
     requires { at < length cells.old }
-    ensures { map (option_map bytes) cells.new ≡ slice_set (map (option_map bytes) cells.old) at (Some (bytes k)) }
+    ensures { map (option_map K.bytes) cells.new ≡ slice_set (map (option_map K.bytes) cells.old) at (Some (K.bytes k)) }
 {
     cells[at] = Some(k);
 }

@@ -16,7 +16,7 @@ pub fn admit<K: Entry>(
     sender: u8,
     statement: Statement<'_>,
 ) -> Result<Claim<K>, Refusal>
-    ensures { answered (claim_of bytes) result ≡ admit_of valid replica.now sender (message_of statement.entry) }
+    ensures { answered (claim_of K.bytes) result ≡ admit_of K.valid replica.now sender (message_of statement.entry) }
 {
     match statement {
         Statement::Send { slot, item } => {

@@ -34,7 +34,7 @@ pub fn set_in(u: u8) -> Option<Bits>
 
 // The entry for a queue's slot.
 pub fn item_in<K: Entry>(replica: &Replica, queue: u8, slot: u8, item: &[u8]) -> Result<K, Refusal>
-    ensures { answered bytes result ≡ item_of valid replica.now queue slot item.now }
+    ensures { answered K.bytes result ≡ item_of K.valid replica.now queue slot item.now }
 {
     if queue >= replica.set.n || slot >= replica.set.w {
         return Err(Refusal::Range);

@@ -11,8 +11,8 @@ use replica::{Claim, Replica, Tables};
 
 // The lowest slot of the own queue without an own send.
 fn unused<K: Entry>(replica: &Replica, tables: &Tables<'_, K>) -> Option<u8>
-    requires { fits replica.now.set.n replica.now.set.w (store bytes tables.now) ≡ true }
-    ensures { result ≡ unused_of replica.now (store bytes tables.now) }
+    requires { fits replica.now.set.n replica.now.set.w (store K.bytes tables.now) ≡ true }
+    ensures { result ≡ unused_of replica.now (store K.bytes tables.now) }
 {
     let set = replica.set;
     for slot in 0..set.w {
@@ -29,7 +29,7 @@ fn unused<K: Entry>(replica: &Replica, tables: &Tables<'_, K>) -> Option<u8>
 
 // The send that the bytes of an entry become.
 fn offer<K: Entry>(replica: &Replica, tables: &Tables<'_, K>, s: &[u8]) -> Result<Claim<K>, Refusal>
-    ensures { answered (claim_of bytes) result ≡ offer_of width valid replica.now (store bytes tables.now) s.now }
+    ensures { answered (claim_of K.bytes) result ≡ offer_of K.width K.valid replica.now (store K.bytes tables.now) s.now }
 {
     if !tables.fit(replica.set.n, replica.set.w) {
         return Err(Refusal::Table);
@@ -58,8 +58,8 @@ pub fn submit<K: Entry>(
     tables: &mut Tables<'_, K>,
     s: &[u8],
 ) -> Result<(), Refusal>
-    ensures value { (numbered result, replica.new, store bytes tables.new) ≡ submit_of width valid replica.old (store bytes tables.old) s.now }
-    ensures submits { Submits valid replica.old (store bytes tables.old) s.now (numbered result) replica.new (store bytes tables.new) }
+    ensures value { (numbered result, replica.new, store K.bytes tables.new) ≡ submit_of K.width K.valid replica.old (store K.bytes tables.old) s.now }
+    ensures submits { Submits K.valid replica.old (store K.bytes tables.old) s.now (numbered result) replica.new (store K.bytes tables.new) }
 {
     enter(replica, tables, s)
 }
@@ -69,7 +69,7 @@ fn enter<K: Entry>(
     tables: &mut Tables<'_, K>,
     s: &[u8],
 ) -> Result<(), Refusal>
-    ensures { (numbered result, replica.new, store bytes tables.new) ≡ submit_of width valid replica.old (store bytes tables.old) s.now }
+    ensures { (numbered result, replica.new, store K.bytes tables.new) ≡ submit_of K.width K.valid replica.old (store K.bytes tables.old) s.now }
 {
     let claim = offer(replica, tables, s)?;
     replica.hold(tables, replica.set.me, claim);

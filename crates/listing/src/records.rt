@@ -11,14 +11,14 @@ use std::alloc::{AllocError, Global};
 
 // The record of a frame.
 pub fn record<K: Entry>(heap: Global, frame: &[u8]) -> Result<Vec<u8>, AllocError>
-    ensures value { IfOk result (λ v. v.items ≡ record_of (kind_of width valid heading columns) frame.now) }
-    ensures accounts { Accounts (kind_of width valid heading columns) frame.now }
+    ensures value { IfOk result (λ v. v.items ≡ record_of (kind_of K.width K.valid K.heading K.columns) frame.now) }
+    ensures accounts { Accounts (kind_of K.width K.valid K.heading K.columns) frame.now }
 {
     assembled::<K>(heap, frame)
 }
 
 fn assembled<K: Entry>(heap: Global, frame: &[u8]) -> Result<Vec<u8>, AllocError>
-    ensures { IfOk result (λ v. v.items ≡ record_of (kind_of width valid heading columns) frame.now) }
+    ensures { IfOk result (λ v. v.items ≡ record_of (kind_of K.width K.valid K.heading K.columns) frame.now) }
 {
     let listing = list::<K>(heap, frame)?;
     let mut out = Vec::new(heap);
@@ -47,7 +47,7 @@ fn push_note(
 }
 
 fn push_heading<K: Entry>(out: &mut Vec<u8>) -> Result<(), AllocError>
-    ensures { OnOk result (out.new.items ≡ out.old.items ++ heading_of heading) }
+    ensures { OnOk result (out.new.items ≡ out.old.items ++ heading_of K.heading) }
 {
     out.extend_from_slice(b"place;letter;says;queue;slot;epoch;round;bit;set;")?;
     out.extend_from_slice(K::names())?;

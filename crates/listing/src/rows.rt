@@ -91,7 +91,7 @@ fn push_columns<K: Entry>(
     heap: Global,
     entry: Option<K>,
 ) -> Result<(), AllocError>
-    ensures { OnOk result (out.new.items ≡ out.old.items ++ following (map text_of (padded (breadth_of heading) (numbers_of columns (option_map bytes entry))))) }
+    ensures { OnOk result (out.new.items ≡ out.old.items ++ following (map text_of (padded (breadth_of K.heading) (numbers_of K.columns (option_map K.bytes entry))))) }
 {
     for i in 0..breadth::<K>() {
         push_cell(out, heap, column(&entry, i))?;
@@ -100,7 +100,7 @@ fn push_columns<K: Entry>(
 }
 
 fn column<K: Entry>(entry: &Option<K>, i: usize) -> Option<usize>
-    ensures { result ≡ slice_get (numbers_of columns (option_map bytes entry.now)) i }
+    ensures { result ≡ slice_get (numbers_of K.columns (option_map K.bytes entry.now)) i }
 {
     let Some(x) = entry else {
         return None;
@@ -118,7 +118,7 @@ pub fn push_row<K: Entry>(
     place: usize,
     part: &[u8],
 ) -> Result<bool, AllocError>
-    ensures { IfOk result (λ ok. (ok, out.new.items) ≡ added (part_row (kind_of width valid heading columns) place part.now) out.old.items) }
+    ensures { IfOk result (λ ok. (ok, out.new.items) ≡ added (part_row (kind_of K.width K.valid K.heading K.columns) place part.now) out.old.items) }
 {
     let Ok(s) = parse::<K>(part) else {
         return Ok(false);
@@ -132,7 +132,7 @@ pub fn push_row<K: Entry>(
 
 // The entry of a statement, or none where it has none; nothing where the bytes are no entry.
 fn read_item<K: Entry>(item: Option<&[u8]>) -> Option<Option<K>>
-    ensures { option_map (option_map bytes) result ≡ item_read valid (option_map (λ x. x.now) item.entry) }
+    ensures { option_map (option_map K.bytes) result ≡ item_read K.valid (option_map (λ x. x.now) item.entry) }
 {
     match item {
         None => Some(None),
@@ -150,8 +150,8 @@ fn push_statement<K: Entry>(
     s: Statement<'_>,
     entry: Option<K>,
 ) -> Result<(), AllocError>
-    requires { option_map bytes entry ≡ item_in (message_of s) }
-    ensures { OnOk result (out.new.items ≡ out.old.items ++ row_of (kind_of width valid heading columns) place (message_of s.entry)) }
+    requires { option_map K.bytes entry ≡ item_in (message_of s) }
+    ensures { OnOk result (out.new.items ≡ out.old.items ++ row_of (kind_of K.width K.valid K.heading K.columns) place (message_of s.entry)) }
 {
     push_number(out, heap, place)?;
     push_word(out, &[s.letter().byte()])?;

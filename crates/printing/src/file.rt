@@ -25,8 +25,8 @@ pub fn print<K: Entry>(
     tables: &Tables<'_, K>,
     out: &mut [u8],
 ) -> Result<usize, Refusal>
-    ensures value { (numbered result, out.new) ≡ print_of heading columns replica.now (store bytes tables.now) out.old }
-    ensures grid { IfOk result (λ len. grid_in (take len out.new) ≡ grid_of heading columns replica.now.set.n (book_of replica.now (store bytes tables.now))) }
+    ensures value { (numbered result, out.new) ≡ print_of K.heading K.columns replica.now (store K.bytes tables.now) out.old }
+    ensures grid { IfOk result (λ len. grid_in (take len out.new) ≡ grid_of K.heading K.columns replica.now.set.n (book_of replica.now (store K.bytes tables.now))) }
 {
     let set = replica.set;
     if !tables.fit(set.n, set.w) {
@@ -42,7 +42,7 @@ pub fn print<K: Entry>(
 // How long the file is.
 fn file_len<K: Entry>(n: u8, pages: &[Option<Page<K>>]) -> usize
     requires { length pages.now ≤ 65535 }
-    ensures { result ≡ length (file_of heading columns n (leading (map (option_map (paged bytes)) pages.now))) }
+    ensures { result ≡ length (file_of K.heading K.columns n (leading (map (option_map (paged K.bytes)) pages.now))) }
 {
     let opening = BOOK.len() + 2 + digits(n as u32) + digits(filled(pages)) + 1;
     let names = PLACE.len() + K::names().len() + 1;
@@ -52,8 +52,8 @@ fn file_len<K: Entry>(n: u8, pages: &[Option<Page<K>>]) -> usize
 // Writes the file to the front of `out`.
 fn put_file<K: Entry>(out: &mut [u8], n: u8, pages: &[Option<Page<K>>]) -> usize
     requires few { length pages.now ≤ 65535 }
-    requires room { length (file_of heading columns n (leading (map (option_map (paged bytes)) pages.now))) ≤ length out.old }
-    ensures { Laid out.old 0 (file_of heading columns n (leading (map (option_map (paged bytes)) pages.now))) result out.new }
+    requires room { length (file_of K.heading K.columns n (leading (map (option_map (paged K.bytes)) pages.now))) ≤ length out.old }
+    ensures { Laid out.old 0 (file_of K.heading K.columns n (leading (map (option_map (paged K.bytes)) pages.now))) result out.new }
 {
     let at = put_opening(out, 0, n, filled(pages));
     let at = put_names::<K>(out, at);
@@ -73,8 +73,8 @@ fn put_opening(out: &mut [u8], at: usize, n: u8, pages: u32) -> usize
 
 // Writes the names of the columns.
 fn put_names<K: Entry>(out: &mut [u8], at: usize) -> usize
-    requires { at + length (names_of heading) ≤ length out.old }
-    ensures { Laid out.old at (names_of heading) result out.new }
+    requires { at + length (names_of K.heading) ≤ length out.old }
+    ensures { Laid out.old at (names_of K.heading) result out.new }
 {
     let at = put(out, at, PLACE);
     let at = put(out, at, K::names());

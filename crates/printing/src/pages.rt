@@ -25,7 +25,7 @@ pub fn counted<K: Entry>(pages: &[Option<Page<K>>], count: u16) -> &[Option<Page
 // How many pages there are.
 pub fn filled<K: Entry>(pages: &[Option<Page<K>>]) -> u32
     requires { length pages.now ≤ 65535 }
-    ensures { result ≡ length (leading (map (option_map (paged bytes)) pages.now)) }
+    ensures { result ≡ length (leading (map (option_map (paged K.bytes)) pages.now)) }
 {
     let mut n = 0;
     for cell in pages {
@@ -40,7 +40,7 @@ pub fn filled<K: Entry>(pages: &[Option<Page<K>>]) -> u32
 // How long their lines are, with a bound that keeps sums small.
 pub fn lines_len<K: Entry>(pages: &[Option<Page<K>>]) -> usize
     requires { length pages.now ≤ 65535 }
-    ensures value { result ≡ length (lines_of columns (leading (map (option_map (paged bytes)) pages.now))) }
+    ensures value { result ≡ length (lines_of K.columns (leading (map (option_map (paged K.bytes)) pages.now))) }
     ensures most { result ≤ 65535 * 3000 }
 {
     let mut len = 0;
@@ -55,8 +55,8 @@ pub fn lines_len<K: Entry>(pages: &[Option<Page<K>>]) -> usize
 
 // Writes their lines.
 pub fn put_lines<K: Entry>(out: &mut [u8], at: usize, pages: &[Option<Page<K>>]) -> usize
-    requires { at + length (lines_of columns (leading (map (option_map (paged bytes)) pages.now))) ≤ length out.old }
-    ensures { Laid out.old at (lines_of columns (leading (map (option_map (paged bytes)) pages.now))) result out.new }
+    requires { at + length (lines_of K.columns (leading (map (option_map (paged K.bytes)) pages.now))) ≤ length out.old }
+    ensures { Laid out.old at (lines_of K.columns (leading (map (option_map (paged K.bytes)) pages.now))) result out.new }
 {
     let mut end = at;
     for cell in pages {

@@ -12,14 +12,14 @@ use entry::Entry;
 
 // How many pages there is room for.
 pub fn room<K: Entry>(pages: &[Option<Page<K>>]) -> usize
-    ensures { result ≡ length (map (option_map (paged bytes)) pages.now) }
+    ensures { result ≡ length (map (option_map (paged K.bytes)) pages.now) }
 {
     pages.len()
 }
 
 // What stands at a place, or nothing past the end.
 pub fn held<K: Entry>(pages: &[Option<Page<K>>], at: usize) -> Option<Page<K>>
-    ensures { option_map (paged bytes) result ≡ slice_index_or (map (option_map (paged bytes)) pages.now) at None }
+    ensures { option_map (paged K.bytes) result ≡ slice_index_or (map (option_map (paged K.bytes)) pages.now) at None }
 {
     if at >= pages.len() {
         return None;
@@ -29,7 +29,7 @@ pub fn held<K: Entry>(pages: &[Option<Page<K>>], at: usize) -> Option<Page<K>>
 
 // Whether the entry stands on one of the first `count` pages, before the first empty place.
 pub fn in_book<K: Entry>(pages: &[Option<Page<K>>], count: usize, x: &K) -> bool
-    ensures { result ≡ stands_in_book same_bytes (leading (take count (map (option_map (paged bytes)) pages.now))) (bytes x.now) }
+    ensures { result ≡ stands_in_book same_bytes (leading (take count (map (option_map (paged K.bytes)) pages.now))) (K.bytes x.now) }
 {
     for i in 0..count {
         let Some(page) = held(pages, i) else {
@@ -44,8 +44,8 @@ pub fn in_book<K: Entry>(pages: &[Option<Page<K>>], count: usize, x: &K) -> bool
 
 // Empties the first `n` places.
 pub fn wipe<K: Entry>(pages: &mut [Option<Page<K>>], n: usize)
-    requires { n ≤ length (map (option_map (paged bytes)) pages.old) }
-    ensures { map (option_map (paged bytes)) pages.new ≡ emptied n (map (option_map (paged bytes)) pages.old) }
+    requires { n ≤ length (map (option_map (paged K.bytes)) pages.old) }
+    ensures { map (option_map (paged K.bytes)) pages.new ≡ emptied n (map (option_map (paged K.bytes)) pages.old) }
 {
     empty(pages, n);
 }

@@ -24,10 +24,10 @@ impl Replica {
         sender: u8,
         claim: Claim<K>,
     ) -> Result<(), Refusal>
-        requires lent { fits self.now.set.n self.now.set.w (store bytes tables.now) ≡ true }
+        requires lent { fits self.now.set.n self.now.set.w (store K.bytes tables.now) ≡ true }
         requires from { sender < self.now.set.n }
-        requires ranged { ranged (plan self.now) (box self.now (store bytes tables.now)) (claim_of bytes claim) ≡ true }
-        ensures { numbered result ≡ vacant_of self.now (store bytes tables.now) sender (claim_of bytes claim) }
+        requires ranged { ranged (plan self.now) (box self.now (store K.bytes tables.now)) (claim_of K.bytes claim) ≡ true }
+        ensures { numbered result ≡ vacant_of self.now (store K.bytes tables.now) sender (claim_of K.bytes claim) }
     {
         let n = self.set.n;
         let w = self.set.w;
@@ -68,20 +68,20 @@ impl Replica {
 
     // Holds a sender's statement in its cell.
     pub fn hold<K: Entry>(&mut self, tables: &mut Tables<'_, K>, sender: u8, claim: Claim<K>)
-        requires lent { fits self.old.set.n self.old.set.w (store bytes tables.old) ≡ true }
+        requires lent { fits self.old.set.n self.old.set.w (store K.bytes tables.old) ≡ true }
         requires from { sender < self.old.set.n }
-        requires ranged { ranged (plan self.old) (box self.old (store bytes tables.old)) (claim_of bytes claim) ≡ true }
-        ensures value { (self.new, store bytes tables.new) ≡ held_of self.old (store bytes tables.old) sender (claim_of bytes claim) }
-        ensures heard { Heard self.old (store bytes tables.old) sender (claim_of bytes claim) self.new (store bytes tables.new) }
+        requires ranged { ranged (plan self.old) (box self.old (store K.bytes tables.old)) (claim_of K.bytes claim) ≡ true }
+        ensures value { (self.new, store K.bytes tables.new) ≡ held_of self.old (store K.bytes tables.old) sender (claim_of K.bytes claim) }
+        ensures heard { Heard self.old (store K.bytes tables.old) sender (claim_of K.bytes claim) self.new (store K.bytes tables.new) }
     {
         self.fill(tables, sender, claim);
     }
 
     fn fill<K: Entry>(&mut self, tables: &mut Tables<'_, K>, sender: u8, claim: Claim<K>)
-        requires lent { fits self.old.set.n self.old.set.w (store bytes tables.old) ≡ true }
+        requires lent { fits self.old.set.n self.old.set.w (store K.bytes tables.old) ≡ true }
         requires from { sender < self.old.set.n }
-        requires ranged { ranged (plan self.old) (box self.old (store bytes tables.old)) (claim_of bytes claim) ≡ true }
-        ensures { (self.new, store bytes tables.new) ≡ held_of self.old (store bytes tables.old) sender (claim_of bytes claim) }
+        requires ranged { ranged (plan self.old) (box self.old (store K.bytes tables.old)) (claim_of K.bytes claim) ≡ true }
+        ensures { (self.new, store K.bytes tables.new) ≡ held_of self.old (store K.bytes tables.old) sender (claim_of K.bytes claim) }
     {
         let n = self.set.n;
         let w = self.set.w;

@@ -38,7 +38,7 @@ impl<'a, K: Entry> Tables<'a, K> {
 impl<K: Entry> Tables<'_, K> {
     // Whether each table is long enough for `n` replicas with `w` slots each.
     pub fn fit(&self, n: u8, w: u8) -> bool
-        ensures { result ≡ fits n w (store bytes self.now) }
+        ensures { result ≡ fits n w (store K.bytes self.now) }
     {
         let slots = slots(n, w);
         let rows = row_cells(n, w);
@@ -51,8 +51,8 @@ impl<K: Entry> Tables<'_, K> {
 
     // Empties what a set of `n` replicas with `w` slots each needs.
     pub(crate) fn clear(&mut self, n: u8, w: u8)
-        requires { fits n w (store bytes self.old) ≡ true }
-        ensures { store bytes self.new ≡ cleared n w (store bytes self.old) }
+        requires { fits n w (store K.bytes self.old) ≡ true }
+        ensures { store K.bytes self.new ≡ cleared n w (store K.bytes self.old) }
     {
         let slots = slots(n, w);
         let rows = row_cells(n, w);

@@ -17,9 +17,9 @@ impl Replica {
         w: u8,
         tables: &mut Tables<'_, K>,
     ) -> Result<Replica, Refusal>
-        ensures value { (answered plain result, store bytes tables.new) ≡ make_of n me w (store bytes tables.old) }
-        ensures wiped { OnOk result (Wiped n w (store bytes tables.old) (store bytes tables.new)) }
-        ensures begins { IfOk result (λ m. Begins me m (store bytes tables.new)) }
+        ensures value { (answered plain result, store K.bytes tables.new) ≡ make_of n me w (store K.bytes tables.old) }
+        ensures wiped { OnOk result (Wiped n w (store K.bytes tables.old) (store K.bytes tables.new)) }
+        ensures begins { IfOk result (λ m. Begins me m (store K.bytes tables.new)) }
     {
         let set = Set::new(n, me, w)?;
         if !tables.fit(n, w) {

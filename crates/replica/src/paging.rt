@@ -15,14 +15,14 @@ use entry::Entry;
 impl Replica {
     // The page at a place in the book, counted from 0.
     pub fn page<K: Entry>(&self, tables: &Tables<'_, K>, place: usize) -> Result<Page<K>, Refusal>
-        ensures value { answered (paged bytes) result ≡ page_of self.now (store bytes tables.now) place }
-        ensures reads { Reads self.now (store bytes tables.now) }
+        ensures value { answered (paged K.bytes) result ≡ page_of self.now (store K.bytes tables.now) place }
+        ensures reads { Reads self.now (store K.bytes tables.now) }
     {
         self.leaf(tables, place)
     }
 
     fn leaf<K: Entry>(&self, tables: &Tables<'_, K>, place: usize) -> Result<Page<K>, Refusal>
-        ensures { answered (paged bytes) result ≡ page_of self.now (store bytes tables.now) place }
+        ensures { answered (paged K.bytes) result ≡ page_of self.now (store K.bytes tables.now) place }
     {
         if !tables.fit(self.set.n, self.set.w) {
             return Err(Refusal::Table);
@@ -38,7 +38,7 @@ impl Replica {
 
     // Whether the entry is in the book.
     pub fn booked<K: Entry>(&self, tables: &Tables<'_, K>, x: &K) -> bool
-        ensures { result ≡ stands_in_book (sameness (plan self.now)) (book_of self.now (store bytes tables.now)) (bytes x.now) }
+        ensures { result ≡ stands_in_book (sameness (plan self.now)) (book_of self.now (store K.bytes tables.now)) (K.bytes x.now) }
     {
         in_book(tables.pages, self.pages as usize, x)
     }

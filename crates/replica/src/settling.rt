@@ -14,7 +14,7 @@ use entry::Entry;
 
 // An entry, in a cell.
 pub fn settle_entry<K: Entry>(held: Option<K>, item: K) -> Result<(), Refusal>
-    ensures { numbered result ≡ settled bytes_same (option_map bytes held) (bytes item) }
+    ensures { numbered result ≡ settled bytes_same (option_map K.bytes held) (K.bytes item) }
 {
     match held {
         None => Ok(()),

@@ -16,7 +16,7 @@ use replica::{Bits, Claim, Replica};
 // The finish of an epoch.
 pub fn finish_at<K: Entry>(replica: &Replica, epoch: u16) -> Option<Claim<K>>
     requires { epoch < 256 }
-    ensures { (t : Store) → option_map (claim_of bytes) result ≡ own (box replica.now t) (at_finish epoch) }
+    ensures { (t : Store) → option_map (claim_of K.bytes) result ≡ own (box replica.now t) (at_finish epoch) }
 {
     match finish_bit(replica, epoch) {
         Some(bit) => Some(Claim::Finish { epoch, bit }),
@@ -42,7 +42,7 @@ fn finish_bit(replica: &Replica, epoch: u16) -> Option<bool>
 // The vote `j` of the current epoch: in each round the values, seen and confirm.
 pub fn vote_at<K: Entry>(replica: &Replica, j: usize) -> Option<Claim<K>>
     requires { j < 64 }
-    ensures { (t : Store) → option_map (claim_of bytes) result ≡ own (box replica.now t) (by_round replica.now.epoch j) }
+    ensures { (t : Store) → option_map (claim_of K.bytes) result ≡ own (box replica.now t) (by_round replica.now.epoch j) }
 {
     if replica.epoch >= EPOCHS {
         return None;
@@ -60,7 +60,7 @@ pub fn vote_at<K: Entry>(replica: &Replica, j: usize) -> Option<Claim<K>>
 fn value_at<K: Entry>(replica: &Replica, round: u8, bit: bool) -> Option<Claim<K>>
     requires low { round < 16 }
     requires early { replica.now.epoch < 256 }
-    ensures { (t : Store) → option_map (claim_of bytes) result ≡ own (box replica.now t) (at_value replica.now.epoch round bit) }
+    ensures { (t : Store) → option_map (claim_of K.bytes) result ≡ own (box replica.now t) (at_value replica.now.epoch round bit) }
 {
     if replica.votes.values[round as usize].has(bit, replica.set.me) {
         Some(Claim::Value {
@@ -76,7 +76,7 @@ fn value_at<K: Entry>(replica: &Replica, round: u8, bit: bool) -> Option<Claim<K
 fn seen_at<K: Entry>(replica: &Replica, round: u8) -> Option<Claim<K>>
     requires low { round < 16 }
     requires early { replica.now.epoch < 256 }
-    ensures { (t : Store) → option_map (claim_of bytes) result ≡ own (box replica.now t) (at_seen replica.now.epoch round) }
+    ensures { (t : Store) → option_map (claim_of K.bytes) result ≡ own (box replica.now t) (at_seen replica.now.epoch round) }
 {
     match replica.votes.seens[round as usize].bit(replica.set.me) {
         Some(bit) => Some(Claim::Seen {
@@ -91,7 +91,7 @@ fn seen_at<K: Entry>(replica: &Replica, round: u8) -> Option<Claim<K>>
 fn confirm_at<K: Entry>(replica: &Replica, round: u8) -> Option<Claim<K>>
     requires low { round < 16 }
     requires early { replica.now.epoch < 256 }
-    ensures { (t : Store) → option_map (claim_of bytes) result ≡ own (box replica.now t) (at_confirm replica.now.epoch round) }
+    ensures { (t : Store) → option_map (claim_of K.bytes) result ≡ own (box replica.now t) (at_confirm replica.now.epoch round) }
 {
     let (zero, one) = replica.votes.confirms[round as usize].set(replica.set.me);
     match bits(zero, one) {

@@ -23,9 +23,9 @@ pub fn places(replica: &Replica) -> usize
 
 // What stands at the place `i`.
 pub fn claim_at<K: Entry>(replica: &Replica, tables: &Tables<'_, K>, i: usize) -> Option<Claim<K>>
-    requires low { i < length (board replica.now (store bytes tables.now)) }
-    requires long { fits replica.now.set.n replica.now.set.w (store bytes tables.now) ≡ true }
-    ensures { option_map (claim_of bytes) result ≡ slice_index_or (board replica.now (store bytes tables.now)) i None }
+    requires low { i < length (board replica.now (store K.bytes tables.now)) }
+    requires long { fits replica.now.set.n replica.now.set.w (store K.bytes tables.now) ≡ true }
+    ensures { option_map (claim_of K.bytes) result ≡ slice_index_or (board replica.now (store K.bytes tables.now)) i None }
 {
     let w = replica.set.w as usize;
     if i < w {
@@ -54,8 +54,8 @@ pub fn claim_at<K: Entry>(replica: &Replica, tables: &Tables<'_, K>, i: usize) -
 
 // The place behind the first `number` statements, if there are so many.
 pub fn skip<K: Entry>(replica: &Replica, tables: &Tables<'_, K>, number: usize) -> Option<usize>
-    requires { fits replica.now.set.n replica.now.set.w (store bytes tables.now) ≡ true }
-    ensures { MatchOption result (length (board_of replica.now (store bytes tables.now)) < number) (λ p. Behind number p (board replica.now (store bytes tables.now))) }
+    requires { fits replica.now.set.n replica.now.set.w (store K.bytes tables.now) ≡ true }
+    ensures { MatchOption result (length (board_of replica.now (store K.bytes tables.now)) < number) (λ p. Behind number p (board replica.now (store K.bytes tables.now))) }
 {
     let end = places(replica);
     let mut left = number;

@@ -23,8 +23,8 @@ fn lay<K: Entry>(
     out: &mut [u8],
 ) -> Result<Shown, Refusal>
     requires low { number ≤ from }
-    requires long { fits replica.now.set.n replica.now.set.w (store bytes tables.now) ≡ true }
-    ensures { (answered pair_of result, out.new) ≡ lay_of number (map spelled (filled (drop from (board replica.now (store bytes tables.now))))) out.old }
+    requires long { fits replica.now.set.n replica.now.set.w (store K.bytes tables.now) ≡ true }
+    ensures { (answered pair_of result, out.new) ≡ lay_of number (map spelled (filled (drop from (board replica.now (store K.bytes tables.now))))) out.old }
 {
     let mut at = 0;
     let mut next = number;
@@ -54,8 +54,8 @@ pub fn show<K: Entry>(
     number: usize,
     out: &mut [u8],
 ) -> Result<Shown, Refusal>
-    ensures value { (answered pair_of result, out.new) ≡ show_of replica.now (store bytes tables.now) number out.old }
-    ensures law { Shows width replica.now (store bytes tables.now) }
+    ensures value { (answered pair_of result, out.new) ≡ show_of replica.now (store K.bytes tables.now) number out.old }
+    ensures law { Shows K.width replica.now (store K.bytes tables.now) }
 {
     if !tables.fit(replica.set.n, replica.set.w) {
         return Err(Refusal::Table);

@@ -16,8 +16,8 @@ use replica::{Claim, Replica, Set, Tables};
 // The entry that the replica sends in a slot of its own.
 pub fn send_at<K: Entry>(replica: &Replica, tables: &Tables<'_, K>, slot: u8) -> Option<Claim<K>>
     requires low { slot < replica.now.set.w }
-    requires long { fits replica.now.set.n replica.now.set.w (store bytes tables.now) ≡ true }
-    ensures { option_map (claim_of bytes) result ≡ own (box replica.now (store bytes tables.now)) (at_send slot) }
+    requires long { fits replica.now.set.n replica.now.set.w (store K.bytes tables.now) ≡ true }
+    ensures { option_map (claim_of K.bytes) result ≡ own (box replica.now (store K.bytes tables.now)) (at_send slot) }
 {
     let set = &replica.set;
     let at = slot_place(set.me, slot, set.n, set.w);
@@ -30,10 +30,10 @@ pub fn send_at<K: Entry>(replica: &Replica, tables: &Tables<'_, K>, slot: u8) ->
 // The replica's own entry in a table with a row for each slot, at the slot `j` of all queues.
 fn own_entry<K: Entry>(table: &Witness<'_, K>, set: &Set, j: usize) -> Option<Held<K>>
     requires low { j < set.now.n * set.now.w }
-    requires long { set.now.n * set.now.w * set.now.n ≤ length (map (option_map bytes) table.now.cells.now) }
-    ensures echo { option_map (stated bytes echo) result ≡ own_row set.now (map (option_map bytes) table.now.cells.now) echo j }
-    ensures ready { option_map (stated bytes ready) result ≡ own_row set.now (map (option_map bytes) table.now.cells.now) ready j }
-    ensures have { option_map (stated bytes have) result ≡ own_row set.now (map (option_map bytes) table.now.cells.now) have j }
+    requires long { set.now.n * set.now.w * set.now.n ≤ length (map (option_map K.bytes) table.now.cells.now) }
+    ensures echo { option_map (stated K.bytes echo) result ≡ own_row set.now (map (option_map K.bytes) table.now.cells.now) echo j }
+    ensures ready { option_map (stated K.bytes ready) result ≡ own_row set.now (map (option_map K.bytes) table.now.cells.now) ready j }
+    ensures have { option_map (stated K.bytes have) result ≡ own_row set.now (map (option_map K.bytes) table.now.cells.now) have j }
 {
     let w = set.w as usize;
     match table.get(j * set.n as usize + set.me as usize) {
@@ -49,8 +49,8 @@ fn own_entry<K: Entry>(table: &Witness<'_, K>, set: &Set, j: usize) -> Option<He
 // The replica's own echo, ready and have at the slot `j` of all queues.
 pub fn echo_at<K: Entry>(replica: &Replica, tables: &Tables<'_, K>, j: usize) -> Option<Claim<K>>
     requires low { j < replica.now.set.n * replica.now.set.w }
-    requires long { fits replica.now.set.n replica.now.set.w (store bytes tables.now) ≡ true }
-    ensures { option_map (claim_of bytes) result ≡ own (box replica.now (store bytes tables.now)) (by_slot replica.now.set.w at_echo j) }
+    requires long { fits replica.now.set.n replica.now.set.w (store K.bytes tables.now) ≡ true }
+    ensures { option_map (claim_of K.bytes) result ≡ own (box replica.now (store K.bytes tables.now)) (by_slot replica.now.set.w at_echo j) }
 {
     match own_entry(&tables.echoes, &replica.set, j) {
         Some(Held { queue, slot, item }) => Some(Claim::Echo { queue, slot, item }),
@@ -60,8 +60,8 @@ pub fn echo_at<K: Entry>(replica: &Replica, tables: &Tables<'_, K>, j: usize) ->
 
 pub fn ready_at<K: Entry>(replica: &Replica, tables: &Tables<'_, K>, j: usize) -> Option<Claim<K>>
     requires low { j < replica.now.set.n * replica.now.set.w }
-    requires long { fits replica.now.set.n replica.now.set.w (store bytes tables.now) ≡ true }
-    ensures { option_map (claim_of bytes) result ≡ own (box replica.now (store bytes tables.now)) (by_slot replica.now.set.w at_ready j) }
+    requires long { fits replica.now.set.n replica.now.set.w (store K.bytes tables.now) ≡ true }
+    ensures { option_map (claim_of K.bytes) result ≡ own (box replica.now (store K.bytes tables.now)) (by_slot replica.now.set.w at_ready j) }
 {
     match own_entry(&tables.readies, &replica.set, j) {
         Some(Held { queue, slot, item }) => Some(Claim::Ready { queue, slot, item }),
@@ -71,8 +71,8 @@ pub fn ready_at<K: Entry>(replica: &Replica, tables: &Tables<'_, K>, j: usize) -
 
 pub fn have_at<K: Entry>(replica: &Replica, tables: &Tables<'_, K>, j: usize) -> Option<Claim<K>>
     requires low { j < replica.now.set.n * replica.now.set.w }
-    requires long { fits replica.now.set.n replica.now.set.w (store bytes tables.now) ≡ true }
-    ensures { option_map (claim_of bytes) result ≡ own (box replica.now (store bytes tables.now)) (by_slot replica.now.set.w at_have j) }
+    requires long { fits replica.now.set.n replica.now.set.w (store K.bytes tables.now) ≡ true }
+    ensures { option_map (claim_of K.bytes) result ≡ own (box replica.now (store K.bytes tables.now)) (by_slot replica.now.set.w at_have j) }
 {
     match own_entry(&tables.haves, &replica.set, j) {
         Some(Held { queue, slot, item }) => Some(Claim::Have { queue, slot, item }),

@@ -33,7 +33,7 @@ fn set_number(set: Bits) -> u8
 
 // The claim's entry, if it has one.
 fn item_in<K: Entry>(claim: &Claim<K>) -> Option<K>
-    ensures { option_map bytes result ≡ entry_stated (claim_of bytes claim.now) }
+    ensures { option_map K.bytes result ≡ entry_stated (claim_of K.bytes claim.now) }
 {
     match claim {
         Claim::Send { item, .. } => Some(*item),
@@ -49,8 +49,8 @@ fn item_in<K: Entry>(claim: &Claim<K>) -> Option<K>
 
 // Writes the claim's entry, if it has one, at the front of `out`.
 fn put_item<K: Entry>(claim: &Claim<K>, out: &mut [u8])
-    requires { width ≤ length out.old }
-    ensures { (x : List ℕ) → entry_stated (claim_of bytes claim.now) ≡ Some x → take width out.new ≡ x }
+    requires { K.width ≤ length out.old }
+    ensures { (x : List ℕ) → entry_stated (claim_of K.bytes claim.now) ≡ Some x → take K.width out.new ≡ x }
 {
     match item_in(claim) {
         Some(item) => item.write(out),
@@ -60,8 +60,8 @@ fn put_item<K: Entry>(claim: &Claim<K>, out: &mut [u8])
 
 // The statement of a claim whose entry, if it has one, has the given bytes.
 fn worded<'a, K: Entry>(claim: &Claim<K>, item: &'a [u8]) -> Statement<'a>
-    requires { (x : List ℕ) → entry_stated (claim_of bytes claim.now) ≡ Some x → item.now ≡ x }
-    ensures { message_of result ≡ spoken (claim_of bytes claim.now) }
+    requires { (x : List ℕ) → entry_stated (claim_of K.bytes claim.now) ≡ Some x → item.now ≡ x }
+    ensures { message_of result ≡ spoken (claim_of K.bytes claim.now) }
 {
     match claim {
         Claim::Send { slot, .. } => Statement::Send { slot: *slot, item },
@@ -104,8 +104,8 @@ fn worded<'a, K: Entry>(claim: &Claim<K>, item: &'a [u8]) -> Statement<'a>
 
 // Writes a claim's statement at the front of `out`, and answers how many bytes it has.
 pub fn write<K: Entry>(claim: &Claim<K>, out: &mut [u8]) -> Result<usize, Refusal>
-    requires { unfit width (spoken (claim_of bytes claim.now)) ≡ None }
-    ensures { (numbered result, out.new) ≡ placed None (spelled (claim_of bytes claim.now)) out.old }
+    requires { unfit K.width (spoken (claim_of K.bytes claim.now)) ≡ None }
+    ensures { (numbered result, out.new) ≡ placed None (spelled (claim_of K.bytes claim.now)) out.old }
 {
     let mut item = [0; 32];
     put_item(claim, &mut item);

@@ -9,8 +9,8 @@ use entry::Entry;
 
 // The part of a frame, from a place on, that is its next statement, or none at the frame's end.
 pub fn next<K: Entry>(frame: &[u8], place: usize) -> Result<Option<&[u8]>, Refusal>
-    ensures value { answered (option_map (λ x. x.now)) result ≡ next_of width frame.now place }
-    ensures walks { Walks width frame.now }
+    ensures value { answered (option_map (λ x. x.now)) result ≡ next_of K.width frame.now place }
+    ensures walks { Walks K.width frame.now }
 {
     if place > frame.len() {
         return Err(Refusal::Place);

@@ -40,7 +40,7 @@ impl Letter {
 
     // How many bytes a statement that begins with it has.
     pub fn length<K: Entry>(self) -> usize
-        ensures { result ≡ length_of width self }
+        ensures { result ≡ length_of K.width self }
     {
         match self {
             Letter::Send => 2 + K::size(),

@@ -11,8 +11,8 @@ use entry::Entry;
 
 // The one statement that the bytes are; its entry stays a part of them.
 pub fn parse<K: Entry>(s: &[u8]) -> Result<Statement<'_>, Refusal>
-    ensures value { answered message_of result ≡ parse_of width s.now }
-    ensures back { IfOk result (λ x. (out : List ℕ) → write_of width (message_of x) out ≡ placed None s.now out) }
+    ensures value { answered message_of result ≡ parse_of K.width s.now }
+    ensures back { IfOk result (λ x. (out : List ℕ) → write_of K.width (message_of x) out ≡ placed None s.now out) }
 {
     if s.is_empty() {
         return Err(Refusal::Short);
@@ -31,7 +31,7 @@ pub fn parse<K: Entry>(s: &[u8]) -> Result<Statement<'_>, Refusal>
 }
 
 fn operands<K: Entry>(letter: Letter, s: &[u8]) -> Statement<'_>
-    requires { length_of width letter ≤ length s.now }
+    requires { length_of K.width letter ≤ length s.now }
     ensures { message_of result ≡ read_of letter s.now }
 {
     match letter {

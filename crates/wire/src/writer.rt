@@ -10,14 +10,14 @@ use entry::Entry;
 impl Statement<'_> {
     // Writes the statement at the front of `out`, and answers how many bytes it has.
     pub fn write<K: Entry>(self, out: &mut [u8]) -> Result<usize, Refusal>
-        ensures value { (numbered result, out.new) ≡ write_of width (message_of self.entry) out.old }
-        ensures back { IfOk result (λ n. parse_of width (take n out.new) ≡ Ok (message_of self.entry)) }
+        ensures value { (numbered result, out.new) ≡ write_of K.width (message_of self.entry) out.old }
+        ensures back { IfOk result (λ n. parse_of K.width (take n out.new) ≡ Ok (message_of self.entry)) }
     {
         self.put::<K>(out)
     }
 
     fn put<K: Entry>(self, out: &mut [u8]) -> Result<usize, Refusal>
-        ensures { (numbered result, out.new) ≡ write_of width (message_of self.entry) out.old }
+        ensures { (numbered result, out.new) ≡ write_of K.width (message_of self.entry) out.old }
     {
         match self {
             Statement::Send { slot, item } => put_item::<K>(&[b'S', slot], item, out),
@@ -38,7 +38,7 @@ impl Statement<'_> {
 
 // An entry behind the letter and operands, if it has the kind's width.
 fn put_item<K: Entry>(head: &[u8], item: &[u8], out: &mut [u8]) -> Result<usize, Refusal>
-    ensures { (numbered result, out.new) ≡ placed (misfit width item.now) (head.now ++ item.now) out.old }
+    ensures { (numbered result, out.new) ≡ placed (misfit K.width item.now) (head.now ++ item.now) out.old }
 {
     if item.len() < K::size() {
         return Err(Refusal::Short);

@@ -6,7 +6,7 @@ use Rattle.cells.specs.Rows.{standing, lowest_in}
 use Rattle.cells.proofs.Firsts.{first_start, first_on, first_hit}
 use Rattle.cells.proofs.Cellrows.{cell, backer, backer_none, backer_few, backer_enough}
 use Rattle.cells.proofs.rows.lowest.Goals as goal
-use Rattle.cells.proofs.rows.lowest.Goals.{in-Some+else-least-standing, in-default}
+use Rattle.cells.proofs.rows.lowest.Goals.{in-Some+else-least-standing, in_default}
 
 pub loop-sender-init : goal.loop-sender-init
 loop-sender-init g c = first_start _
@@ -32,7 +32,7 @@ loop-sender-preserved g c =
     first_on (backer c.args.least row) i c.loop-sender.invariant
     (elim c.match-cell.branch [
       | in-Some+else-least-standing w ↦ backer_few c.args.least row i (b w.in-Some.x) (at ∙ ap (option_map b) w.in-Some.is) (omega (arith, w.standing.ensures, w.if-least-standing.false))
-      | in-default w ↦ backer_none c.args.least row i (at ∙ ap (option_map b) w.in-default.is)
+      | in_default w ↦ backer_none c.args.least row i (at ∙ ap (option_map b) w.in_default.is)
     ])
 
 pub returns : goal.returns

@@ -15,13 +15,13 @@ returns-in-Err g c =
     ap (λ text. (text, l.replica, store k.bytes l.tables)) c.in_ok-push_refused.ensures
     ∙ stops k.width k.valid c.args.sender c.args.start c.args.frame.now l.place l.invariant.0 r _ l.invariant.1 (number_of c.in-Err.refusal) (sym c.in-Err.ensures.value)
 
-pub returns-in-default : goal.returns-in-default
-returns-in-default g c =
+pub returns-in_default : goal.returns-in_default
+returns-in_default g c =
     let k = g.K.Entry in
     let l = c.loop-found in
     let r : Run = (vec_items l.text, l.replica, store k.bytes l.tables) in
     ends k.width k.valid c.args.sender c.args.start c.args.frame.now l.place l.invariant.0 r _ l.invariant.1
-    (sym c.in-Ok.ensures.value ∙ ap (λ o. Ok (option_map (λ x. x.now) o)) c.in-default.is)
+    (sym c.in-Ok.ensures.value ∙ ap (λ o. Ok (option_map (λ x. x.now) o)) c.in_default.is)
 
 pub loop-found-smaller : goal.loop-found-smaller
 loop-found-smaller g c =

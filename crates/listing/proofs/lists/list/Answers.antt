@@ -22,10 +22,10 @@ returns-in-Err g c =
     sym (at_stop (kind g) c.args.frame.now c.loop-found.place c.loop-found.invariant.0 (vec_items c.loop-found.rows) c.loop-found.count (number_of c.in-Err.e) (sym c.in-Err.ensures.value))
     ∙ c.loop-found.invariant.2
 
-pub returns-in-default : goal.returns-in-default
-returns-in-default g c =
+pub returns-in_default : goal.returns-in_default
+returns-in_default g c =
     sym (at_end (kind g) c.args.frame.now c.loop-found.place c.loop-found.invariant.0 (vec_items c.loop-found.rows) c.loop-found.count
-    (sym c.in-Ok.ensures.value ∙ ap (λ o. Ok (option_map (λ x. x.now) o)) c.in-default.is))
+    (sym c.in-Ok.ensures.value ∙ ap (λ o. Ok (option_map (λ x. x.now) o)) c.in_default.is))
     ∙ c.loop-found.invariant.2
 
 pub returns-then-not-branch : goal.returns-then-not-branch

@@ -29,7 +29,7 @@ returns g c =
     let m = g.met.K.Entry in
     let b = g.K.Entry.bytes c.args.x.now in
     let ns = g.K.Entry.columns b in
-    let end : length (cells_of (drop c.loop-n.i ns)) ≡ 0 = ap (λ l. length (cells_of l)) (none ns c.loop-n.i c.in-default.ensures) in
+    let end : length (cells_of (drop c.loop-n.i ns)) ≡ 0 = ap (λ l. length (cells_of l)) (none ns c.loop-n.i c.in_default.ensures) in
     record {
       value = omega (arith, c.loop-n.invariant, end);
       most = omega (arith, c.loop-n.invariant, few g.K.Entry.heading ns m.brief (m.matched b (m.sound c.args.x.now)));

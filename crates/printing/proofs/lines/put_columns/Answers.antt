@@ -34,4 +34,4 @@ loop-n-preserved g c =
 pub returns : goal.returns
 returns g c =
     let ns = g.K.Entry.columns (g.K.Entry.bytes c.args.x.now) in
-    over (ap cells_of (none ns c.loop-n.i c.in-default.ensures)) c.loop-n.invariant
+    over (ap cells_of (none ns c.loop-n.i c.in_default.ensures)) c.loop-n.invariant

@@ -6,10 +6,10 @@ use Rattle.printing.specs.Files.{line_of, lines_of}
 use Rattle.printing.proofs.Leading.{at_page, at_none, at_end}
 use Rattle.printing.proofs.pages.lines_len.Goals as goal
 
-pub returns-in-default : goal.returns-in-default
-returns-in-default g c =
+pub returns-in_default : goal.returns-in_default
+returns-in_default g c =
     let e = g.K.Entry in
-    let end = at_none (paged e.bytes) c.args.pages.now c.loop-cell.cell-index c.cell-item.result c.loop-cell-test.true c.cell-item.is c.in-default.is in
+    let end = at_none (paged e.bytes) c.args.pages.now c.loop-cell.cell-index c.cell-item.result c.loop-cell-test.true c.cell-item.is c.in_default.is in
     record { value = omega (arith, c.loop-cell.invariant, ap (λ ps. length (lines_of e.columns ps)) end); most = omega (arith, c.loop-cell.invariant, c.requires) }
 
 pub loop-cell-preserved : goal.loop-cell-preserved

@@ -12,10 +12,10 @@ loop-cell-init g c =
     let e = g.K.Entry in
     start c.args.out.now (lines_of e.columns (leading (map (option_map (paged e.bytes)) c.args.pages.now))) c.args.at c.requires
 
-pub returns-in-default : goal.returns-in-default
-returns-in-default g c =
+pub returns-in_default : goal.returns-in_default
+returns-in_default g c =
     let e = g.K.Entry in
-    let end = at_none (paged e.bytes) c.args.pages.now c.loop-cell.cell-index c.cell-item.result c.loop-cell-test.true c.cell-item.is c.in-default.is in
+    let end = at_none (paged e.bytes) c.args.pages.now c.loop-cell.cell-index c.cell-item.result c.loop-cell-test.true c.cell-item.is c.in_default.is in
     over (ap (lines_of e.columns) end) c.loop-cell.invariant
 
 pub put_line-end-requires : goal.put_line-end-requires

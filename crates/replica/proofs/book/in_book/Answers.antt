@@ -4,11 +4,11 @@ use Rattle.replica.specs.Store.{paged}
 use Rattle.replica.proofs.Leading.{left, booked_none, booked_some, booked_end}
 use Rattle.replica.proofs.book.in_book.Goals as goal
 
-pub returns-in-default : goal.returns-in-default
-returns-in-default g c =
+pub returns-in_default : goal.returns-in_default
+returns-in_default g c =
     let b = g.K.Entry.bytes in
     let ps = map (option_map (paged b)) c.args.pages.now in
-    sym (booked_none ps c.args.count c.loop-i.i (b c.args.x.now) c.loop-i-test.true (sym c.in-default.ensures)) ∙ c.loop-i.invariant
+    sym (booked_none ps c.args.count c.loop-i.i (b c.args.x.now) c.loop-i-test.true (sym c.in_default.ensures)) ∙ c.loop-i.invariant
 
 pub returns-then-same : goal.returns-then-same
 returns-then-same g c =

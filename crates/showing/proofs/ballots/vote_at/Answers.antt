@@ -21,7 +21,7 @@ returns-in-1 g c t = of-kind c.args.replica.now t c.args.j 1 _ c.in-1.is (c.valu
 pub returns-in-2 : goal.returns-in-2
 returns-in-2 g c t = of-kind c.args.replica.now t c.args.j 2 _ c.in-2.is (c.seen_at.ensures t)
 
-pub returns-in-default : goal.returns-in-default
-returns-in-default g c t =
+pub returns-in_default : goal.returns-in_default
+returns-in_default g c t =
     let last : c.args.j % 4 ≡ 3 = omega arith in
     of-kind c.args.replica.now t c.args.j 3 _ last (c.confirm_at.ensures t)

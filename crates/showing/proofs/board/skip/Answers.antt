@@ -4,7 +4,7 @@ use Rattle.replica.specs.Store.{store}
 use Rattle.showing.specs.Boards.{places}
 use Rattle.showing.proofs.Skipping.{Going, going_none, going_some, going_short}
 use Rattle.showing.proofs.board.skip.Goals as goal
-use Rattle.showing.proofs.board.skip.Goals.{in-Some, in-default}
+use Rattle.showing.proofs.board.skip.Goals.{in-Some, in_default}
 
 pub loop-i-preserved : goal.loop-i-preserved
 loop-i-preserved g c =
@@ -17,7 +17,7 @@ loop-i-preserved g c =
     let low : i < length board = omega (arith, c.loop-i-test.true, c.places-end.ensures t) in
     elim c.match-claim_at.branch [
       | in-Some w ↦ subst (λ n. Going k (i + 1) n board) (sym w.left-is) (going_some k i left board (claim_of b w.in-Some.-claim) c.loop-i.invariant low c.if-left-eq0.false w.in-Some.ensures)
-      | in-default w ↦ subst (λ n. Going k (i + 1) n board) (sym w.left-is) (going_none k i left board c.loop-i.invariant low w.in-default.ensures)
+      | in_default w ↦ subst (λ n. Going k (i + 1) n board) (sym w.left-is) (going_none k i left board c.loop-i.invariant low w.in_default.ensures)
     ]
 
 pub returns-else-left-eq0-2 : goal.returns-else-left-eq0-2

@@ -59,8 +59,8 @@ loop-i-preserved g c =
             omega (arith, w.next-is),
             renamed _ _ _ _ _ _ _ _ _ _ w.at-is w.next-is w.out-is (laid_more _ _ _ _ _ _ _ _ w.write.new.out l w.in-Ok.bytes w.in-Ok.ensures),
           )
-      | goal.in-default w ↦
-          let l = onward c.args.replica.now t c.loop-i.i _ None _ _ _ _ _ _ (c.places-i-end.ensures t) c.loop-i-test.true w.in-default.ensures c.loop-i.invariant.1 in
+      | goal.in_default w ↦
+          let l = onward c.args.replica.now t c.loop-i.i _ None _ _ _ _ _ _ (c.places-i-end.ensures t) c.loop-i-test.true w.in_default.ensures c.loop-i.invariant.1 in
           (omega (arith, w.next-is), renamed _ _ _ _ _ _ _ _ _ _ w.at-is w.next-is w.out-is l)
     ]
 

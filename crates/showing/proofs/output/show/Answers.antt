@@ -21,11 +21,11 @@ returns-then-not-fit g c =
     let t = store g.K.Entry.bytes c.args.tables.now in
     record { value = show_short m t c.args.number c.args.out.now c.if-not-fit.ensures; law = law g m c.args.tables.now }
 
-pub returns-in-default : goal.returns-in-default
-returns-in-default g c =
+pub returns-in_default : goal.returns-in_default
+returns-in_default g c =
     let m = c.args.replica.now in
     let t = store g.K.Entry.bytes c.args.tables.now in
-    record { value = show_past m t c.args.number c.args.out.now c.if-not-fit.ensures c.in-default.ensures; law = law g m c.args.tables.now }
+    record { value = show_past m t c.args.number c.args.out.now c.if-not-fit.ensures c.in_default.ensures; law = law g m c.args.tables.now }
 
 pub returns : goal.returns
 returns g c =

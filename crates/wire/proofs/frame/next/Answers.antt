@@ -44,11 +44,11 @@ returns-then-place-frame-2 g c =
       walks = walks w s;
     }
 
-pub returns-in-default : goal.returns-in-default
-returns-in-default g c =
+pub returns-in_default : goal.returns-in_default
+returns-in_default g c =
     let s = c.args.frame.now in
     let w = g.K.Entry.width in
-    record { value = sym (inside w c.args.place s (omega arith) None c.in-default.ensures); walks = walks w s }
+    record { value = sym (inside w c.args.place s (omega arith) None c.in_default.ensures); walks = walks w s }
 
 pub returns-then-n-frame : goal.returns-then-n-frame
 returns-then-n-frame g c =

@@ -9,10 +9,10 @@ returns-then-not-fit g c = page_short c.args.self.now (store g.K.Entry.bytes c.a
 pub returns-then-place-self : goal.returns-then-place-self
 returns-then-place-self g c = page_past c.args.self.now (store g.K.Entry.bytes c.args.tables.now) c.args.place c.if-not-fit.ensures c.if-place-self.true
 
-pub returns-in-default : goal.returns-in-default
-returns-in-default g c =
+pub returns-in_default : goal.returns-in_default
+returns-in_default g c =
     let t = store g.K.Entry.bytes c.args.tables.now in
-    page_found c.args.self.now t c.args.place c.if-not-fit.ensures c.if-place-self.false None c.in-default.ensures
+    page_found c.args.self.now t c.args.place c.if-not-fit.ensures c.if-place-self.false None c.in_default.ensures
 
 pub returns : goal.returns
 returns g c =
