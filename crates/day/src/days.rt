@@ -40,7 +40,7 @@ pub fn replay<K: Entry>(
     day: &[u8],
 ) -> Result<Vec<u8>, AllocError>
     ensures value { IfOk result (λ text. (text.items, replica.new, store K.bytes tables.new) ≡ day_of K.width K.valid replica.old (store K.bytes tables.old) day.now) }
-    ensures heard { Heard K.width valid }
+    ensures heard { Heard K.width K.valid }
 {
     run(replica, tables, heap, day)
 }

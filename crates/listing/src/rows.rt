@@ -73,7 +73,7 @@ fn wide(operand: Option<u8>) -> Option<usize>
 
 // How many columns a kind has.
 pub fn breadth<K: Entry>() -> usize
-    ensures { result ≡ breadth_of heading }
+    ensures { result ≡ breadth_of K.heading }
 {
     let names = K::names();
     let mut n = 1;

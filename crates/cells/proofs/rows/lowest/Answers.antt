@@ -17,7 +17,7 @@ returns-then-least-standing g c =
     let b = g.K.Entry.bytes in
     let xs = c.args.cells.now in
     let row = map (option_map b) xs in
-    let i = c.loop-sender.-sender in
+    let i = c.loop-sender._sender in
     let at = cell b xs i c.index-cells-sender.result c.loop-sender-test.true c.index-cells-sender.is ∙ ap (option_map b) c.in-Some.is in
     sym (first_hit (backer c.args.least row) (length row) i (b c.in-Some.x) (omega (arith, length-map xs (option_map b), c.loop-sender-test.true)) c.loop-sender.invariant
     (backer_enough c.args.least row i (b c.in-Some.x) at (omega (arith, c.standing.ensures, c.if-least-standing.true))))
@@ -27,7 +27,7 @@ loop-sender-preserved g c =
     let b = g.K.Entry.bytes in
     let xs = c.args.cells.now in
     let row = map (option_map b) xs in
-    let i = c.loop-sender.-sender in
+    let i = c.loop-sender._sender in
     let at = cell b xs i c.index-cells-sender.result c.loop-sender-test.true c.index-cells-sender.is in
     first_on (backer c.args.least row) i c.loop-sender.invariant
     (elim c.match-cell.branch [
@@ -40,5 +40,5 @@ unfolding lowest_in
 returns g c =
     let b = g.K.Entry.bytes in
     let row = map (option_map b) c.args.cells.now in
-    let e : c.loop-sender.-sender ≡ length row = omega (arith, length-map c.args.cells.now (option_map b), c.loop-sender-test.false) in
+    let e : c.loop-sender._sender ≡ length row = omega (arith, length-map c.args.cells.now (option_map b), c.loop-sender-test.false) in
     sym (ap (λ k. first k (backer c.args.least row)) (sym e) ∙ c.loop-sender.invariant)

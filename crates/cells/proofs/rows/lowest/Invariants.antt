@@ -5,4 +5,4 @@ use Rattle.cells.proofs.Cellrows.{backer}
 use Rattle.cells.proofs.rows.lowest.Given as goal
 
 abbrev pub invariant-loop-sender : goal.invariant-loop-sender
-invariant-loop-sender g l = first l.-sender (backer l.least (map (option_map g.K.Entry.bytes) l.cells)) ≡ None
+invariant-loop-sender g l = first l._sender (backer l.least (map (option_map g.K.Entry.bytes) l.cells)) ≡ None

@@ -13,7 +13,7 @@ loop-sender-preserved g c =
     let b = g.K.Entry.bytes in
     let x = b c.args.x.now in
     let row = map (option_map b) c.args.cells.now in
-    let i = c.loop-sender.-sender in
+    let i = c.loop-sender._sender in
     let at = cell b c.args.cells.now i c.index-cells-sender.result c.loop-sender-test.true c.index-cells-sender.is in
     let more = count_next i (λ j. holds x (get_or row j None)) c.loop-sender.senders c.holds.result c.loop-sender.invariant.1 (c.holds.ensures ∙ ap (holds x) (sym at)) in
     elim c.if-holds.branch [
@@ -27,5 +27,5 @@ returns g c =
     let b = g.K.Entry.bytes in
     let x = b c.args.x.now in
     let row = map (option_map b) c.args.cells.now in
-    let e : c.loop-sender.-sender ≡ length row = omega (arith, length-map c.args.cells.now (option_map b), c.loop-sender-test.false) in
+    let e : c.loop-sender._sender ≡ length row = omega (arith, length-map c.args.cells.now (option_map b), c.loop-sender-test.false) in
     c.loop-sender.invariant.1 ∙ ap (λ k. count k (λ j. holds x (get_or row j None))) e

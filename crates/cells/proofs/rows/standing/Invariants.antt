@@ -7,4 +7,4 @@ use Rattle.cells.proofs.rows.standing.Given as goal
 abbrev pub invariant-loop-sender : goal.invariant-loop-sender
 invariant-loop-sender g l =
     let b = g.K.Entry.bytes in
-    (l.senders ≤ l.-sender) × (l.senders ≡ count l.-sender (λ j. holds (b l.x) (get_or (map (option_map b) l.cells) j None)))
+    (l.senders ≤ l._sender) × (l.senders ≡ count l._sender (λ j. holds (b l.x) (get_or (map (option_map b) l.cells) j None)))

@@ -4,8 +4,8 @@ use Rattle.std.proofs.lemmas.Bool.Decides.{nat_tests}
 use Rattle.listing.proofs.rows.breadth.Goals as goal
 use Rattle.listing.proofs.rows.breadth.Goals.{then-b-eq59, else-b-eq59}
 
-pub overflow-add-n : goal.overflow-add-n
-overflow-add-n g c =
+pub overflow_add-n : goal.overflow_add-n
+overflow_add-n g c =
     let short : length c.names-names.result.now < 256 = omega (arith, g.met.K.Entry.brief, ap length c.names-names.ensures) in
     omega (arith, c.loop-b.invariant.0)
 

@@ -3,14 +3,14 @@ use Rattle.printing.specs.Files.{cells_of}
 use Rattle.printing.proofs.Reading.{next, none, few, cells_long}
 use Rattle.printing.proofs.lines.columns_len.Goals as goal
 
-pub overflow-add-len-in-Some : goal.overflow-add-len-in-Some
-overflow-add-len-in-Some g c =
+pub overflow_add-len-in-Some : goal.overflow_add-len-in-Some
+overflow_add-len-in-Some g c =
     let m = g.met.K.Entry in
     let b = g.K.Entry.bytes c.args.x.now in
     omega (arith, c.loop-n.invariant, few g.K.Entry.heading (g.K.Entry.columns b) m.brief (m.matched b (m.sound c.args.x.now)))
 
-pub overflow-add-i : goal.overflow-add-i
-overflow-add-i g c =
+pub overflow_add-i : goal.overflow_add-i
+overflow_add-i g c =
     let m = g.met.K.Entry in
     let b = g.K.Entry.bytes c.args.x.now in
     omega (arith, c.loop-n.invariant, few g.K.Entry.heading (g.K.Entry.columns b) m.brief (m.matched b (m.sound c.args.x.now)))

@@ -15,8 +15,8 @@ put_cell-end-requires g c =
     let one = next ns i c.in-Some.n c.in-Some.ensures in
     fits (cell_of c.in-Some.n) (cells_of (drop (i + 1) ns)) (ap cells_of one.is) c.loop-n.invariant
 
-pub overflow-add-i : goal.overflow-add-i
-overflow-add-i g c =
+pub overflow_add-i : goal.overflow_add-i
+overflow_add-i g c =
     let m = g.met.K.Entry in
     let ns = g.K.Entry.columns (g.K.Entry.bytes c.args.x.now) in
     omega (arith, (next ns c.loop-n.i c.in-Some.n c.in-Some.ensures).below, few g.K.Entry.heading ns m.brief (m.matched (g.K.Entry.bytes c.args.x.now) (m.sound c.args.x.now)))
