@@ -11,13 +11,13 @@ use Rattle.replica.proofs.state.Replica.make.Goals as goal
 pub returns-in_err-set : goal.returns-in_err-set
 returns-in_err-set g c =
     let t = store g.K.Entry.bytes c.args.tables.now in
-    let p = err_from_is_err_and c.from-residual.result c.from-residual.ensures.1 in
+    let p = err_from_is_err_and c.from_residual.result c.from_residual.ensures.1 in
     record {
       value =
           ap (λ r. (answered plain r, t)) (p.1 ∙ ap Err p.2)
           ∙ make_declined c.args.n c.args.me c.args.w t _ c.in_err-set.ensures;
-      wiped = IfOk-from_err c.from-residual.result _ (ap is_err p.1);
-      begins = IfOk-from_err c.from-residual.result _ (ap is_err p.1);
+      wiped = IfOk-from_err c.from_residual.result _ (ap is_err p.1);
+      begins = IfOk-from_err c.from_residual.result _ (ap is_err p.1);
     }
 
 pub returns-then-not-fit : goal.returns-then-not-fit
