@@ -4,8 +4,8 @@ ghost use Rattle.printing.specs.Texts.{Laid, cell_of};
 
 // Copies bytes to a place; answers the place behind them.
 pub fn put(out: &mut [u8], at: usize, bytes: &[u8]) -> usize
-    requires { at + length K.bytes.now ≤ length out.old }
-    ensures { Laid out.old at K.bytes.now result out.new }
+    requires { at + length bytes.now ≤ length out.old }
+    ensures { Laid out.old at bytes.now result out.new }
 {
     let end = at + bytes.len();
     out[at..end].copy_from_slice(bytes);

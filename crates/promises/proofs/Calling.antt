@@ -1,11 +1,13 @@
 -- One call at a whole replica is one call of the theory's box.
 use Rattle.std.proofs.Common.{◌≡◌, ℕ, Bool, true, false, cond, not, ◌&&◌, eqb, ltb, leb, ◌⊎◌, List, [], ◌∷◌, Some, None, Ok, Err, Option, Result, sym, refl, ap, ◌∙◌, subst, inl, inr, arith}
 use mathlib.Core.Bool.{false≢true}
+use Rattle.std.specs.List.{slice_get}
 use Rattle.std.proofs.lemmas.Bool.{ltb-true, eq-eqb, and_left, and_right, not_from_true, cases_Bool}
 use Rattle.common.specs.Limits.{epochs}
 use Rattle.common.specs.Refusals.{declined}
 use Rattle.common.specs.declared.refusal.Refusal.TheVariants.{Table, Over}
 use Rattle.theory.specs.Statement.{Stmt, sends}
+use Rattle.theory.specs.Book.{Page}
 use Rattle.theory.specs.Machine.{Box, Small, says, hears, stays, enters, leaves, small, Steps, does}
 use Rattle.theory.specs.Search.{map}
 use Rattle.theory.specs.Calls as theory
@@ -22,7 +24,7 @@ use Rattle.replica.proofs.Putting.{box_held}
 use Rattle.intake.proofs.Heard.{ok≢err}
 use Rattle.intake.proofs.Judged.{judged, accepted, judges}
 use Rattle.intake.proofs.Submitted.{offers, taken, offering, send_ranged, unused_free}
-use Rattle.turns.specs.Stepping.{filed_of, step_of, steps_of}
+use Rattle.turns.specs.Stepping.{left_of, filed_of, step_of, steps_of}
 use Rattle.turns.specs.Turning.{opened, open_of, turned, turn_of}
 use Rattle.turns.specs.Ties.{Whole}
 use Rattle.turns.proofs.Keeping.{held_rest, held_whole}
@@ -39,8 +41,11 @@ step_set (says st) m t = held_set m t m.set.me st
 step_set (hears j st) m t = held_set m t j st
 step_set (stays g) m t = refl
 step_set (enters e v) m t = refl
-step_set (leaves None) m t = refl
-step_set (leaves (Some p)) m t = refl
+step_set (leaves l) m t = at (slice_get l.book m.pages)
+  where
+    at : (o : Option (Page (List ℕ))) → (left_of (filed_of o m t).0).set ≡ m.set
+    at None = refl
+    at (Some p) = refl
 
 steps_set : (l : Steps (List ℕ)) (m : Replica) (t : Store) → (steps_of l m t).0.set ≡ m.set
 steps_set [] m t = refl

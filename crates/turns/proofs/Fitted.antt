@@ -1,15 +1,15 @@
 -- Each of the ten turns, and open, fits a whole replica.
-use Rattle.std.proofs.Common.{◌≡◌, ℕ, suc, ◌+◌, ◌%◌, ◌<◌, ◌≤◌, Bool, true, false, cond, not, ◌&&◌, eqb, ltb, List, [], ◌∷◌, get_or, Some, None, Option, sym, refl, ap, ◌∙◌, subst, arith}
+use Rattle.std.proofs.Common.{◌≡◌, ℕ, suc, ◌+◌, ◌%◌, ◌<◌, ◌≤◌, Bool, true, false, cond, not, ◌&&◌, eqb, ltb, List, [], ◌∷◌, get_or, Some, None, Option, sym, refl, ap, ◌∙◌, subst, inl, inr, arith}
 use mathlib.Core.Bool.{false≢true}
 use Rattle.std.specs.Option.{option_map}
 use Rattle.std.proofs.lemmas.Bool.{ltb-true, lt-ltb, eq-eqb, and_from, and_parts, cond_both, cases_Bool}
 use Rattle.common.specs.Limits.{epochs, rounds}
 use Rattle.theory.specs.Statement.{Bits, only, both, Stmt, sends, echo, ready, have, value, seen, confirm, finish, Cell, at_send, at_echo, at_ready, at_have, at_value, at_seen, at_confirm, at_finish, cell}
 use Rattle.theory.specs.Plan.{Plan}
-use Rattle.theory.specs.Book.{page-of}
+use Rattle.theory.specs.Book.{Page}
 use Rattle.theory.specs.Machine.{Stage, unopened, awaiting, running, Box, Small, says, stays, enters, leaves, Steps}
 use Rattle.theory.specs.Search.{map, absent}
-use Rattle.theory.specs.Turns.{set_of, same_bit, outcome, writes, joined, closes}
+use Rattle.theory.specs.Turns.{set_of, same_bit, outcome, queue, writes, joined, closes}
 use Rattle.theory.specs.Calls.{ranged, Turn, to_echo, to_ready, to_keep, to_follow, to_decide, to_write, to_second, to_see, to_confirm, to_close, stated, in_round, deciding, writing, finishing, closing, in_week, way, turn, opening, or_none}
 use Rattle.theory.specs.Rules.{WriteRule}
 use Rattle.theory.specs.Laws.{Filed, Ten, SlotLaw}
@@ -105,13 +105,14 @@ module _ (m : Replica) (t : Store) (coin : ℕ → ℕ → Bool) (W : Whole m t)
 
   deciding_fits : m.epoch < epochs → (v : Bool) → Fits (deciding P B v) m t
   deciding_fits lt true = (λ r d e. absurd (let z : ◌≡◌ {A = ℕ} 0 1 = cc in omega arith), tt)
-  deciding_fits lt false = (lt, tt)
+  deciding_fits lt false = ((lt, inl refl), tt)
 
   writing_fits : m.epoch < epochs → (p : ℕ × List ℕ) → writes P B ≡ Some p → Fits (writing P B p) m t
   writing_fits lt p e =
       let i = (laws m t coin).writes.sound p e in
       let rule = subst (λ (k : ℕ × List ℕ). WriteRule P B k.0 k.1) (sym i.1) i.2.0 in
-      ((lt, record { queue = omega (arith, m.set.least); above = rule.from; below = rule.below }), tt)
+      let page : Page (List ℕ) = record { epoch = m.epoch; queue = queue P B; slot = p.0; entry = p.1 } in
+      ((lt, inr (page, record { queue = omega (arith, m.set.least); above = rule.from; below = rule.below }, refl)), tt)
 
   -- a finish after a close, where none was stated
   finishing_fits : (k : Replica) (c : Bool × Bool) → (ranged (plan k) (box k t) (finish m.epoch c.0) ≡ true) → (c.1 ≡ true → Vacant k t k.set.me (finish m.epoch c.0)) → Fits (finishing P B c) k t

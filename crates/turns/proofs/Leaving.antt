@@ -1,11 +1,12 @@
 -- An epoch is left: what is then in sight, and the book with its new page.
 use Rattle.std.proofs.Common.{◌≡◌, ℕ, zero, suc, ◌+◌, ◌*◌, ◌<◌, ◌≤◌, Bool, true, false, cond, ◌&&◌, eqb, ltb, ◌⊎◌, List, [], ◌∷◌, ◌++◌, length, get_or, take, set, replicate, Some, None, Option, sym, refl, ap, ◌∙◌, inl, inr, add-one, arith, get_or-set_other, get_or-set_same}
+use Rattle.std.specs.List.{slice_get}
 use Rattle.std.specs.Option.{option_map}
 use Rattle.std.proofs.lemmas.Bool.{lt-ltb, le-ltb, eq-eqb, ne_eqb, cond-true, cond-false, cases_eq, cases_order}
 use Rattle.common.specs.Limits.{epochs, rounds}
 use Rattle.theory.specs.Statement.{Stmt, value, seen, confirm, finish, Cell, at_send, at_echo, at_ready, at_have, at_value, at_seen, at_confirm, at_finish}
-use Rattle.theory.specs.Book.{Page, filed}
-use Rattle.theory.specs.Machine.{drop, small, leaves}
+use Rattle.theory.specs.Book.{Page}
+use Rattle.theory.specs.Machine.{drop}
 use Rattle.votes.specs.Votes.{unmarked, no_votes, bit_of, set_for}
 use Rattle.votes.proofs.Marking.{marks_none, bit_none, set_none}
 use Rattle.replica.specs.declared.state.Replica.{Replica}
@@ -69,3 +70,10 @@ head_more heads q s k l = at (cases_eq k q)
     at : (k ≡ q) ⊎ (k ≡ q → ⊥) → get_or (set heads q (s + 1)) k 0 ≡ cond (eqb k q) (suc s) (get_or heads k 0)
     at (inl e) = rw (eq-eqb k q e, e) (get_or-set_same heads q (s + 1) 0 l ∙ add-one s)
     at (inr n) = rw (ne_eqb k q n) (get_or-set_other heads q k (s + 1) 0 n)
+
+-- the place behind a list has what is put there
+pub next_some : {A : Type 0} (xs : List A) (n : ℕ) (x : A) → length xs ≡ n → slice_get (xs ++ (x ∷ [])) n ≡ Some x
+next_some [] zero x e = refl
+next_some [] (suc n) x e = absurd (omega arith)
+next_some (y ∷ xs) zero x e = absurd (omega arith)
+next_some (y ∷ xs) (suc n) x e = next_some xs n x (omega (arith, e))

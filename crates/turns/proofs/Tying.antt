@@ -1,9 +1,11 @@
 -- Steps of the theory's box that fit a whole replica are done to it, one after the other.
-use Rattle.std.proofs.Common.{◌≡◌, ℕ, suc, ◌+◌, ◌<◌, ◌≤◌, Bool, true, false, ◌&&◌, eqb, ltb, List, [], ◌∷◌, get_or, take, Some, None, Option, sym, refl, ap, ◌∙◌, add-one, arith}
+use Rattle.std.proofs.Common.{◌≡◌, ℕ, suc, ◌+◌, ◌<◌, ◌≤◌, Bool, true, false, ◌&&◌, eqb, ltb, ◌⊎◌, List, [], ◌∷◌, get_or, take, Some, None, Option, sym, refl, ap, ◌∙◌, subst, ⊎_elim, add-one, arith}
+use Rattle.std.specs.List.{slice_get}
+use Rattle.std.proofs.lemmas.Option.{slice_get_past}
 use Rattle.std.proofs.lemmas.Bool.{lt-ltb, eq-eqb, and_from}
 use Rattle.common.specs.Limits.{epochs, rounds}
 use Rattle.theory.specs.Statement.{Stmt, value, Cell, at_send, at_echo, at_ready, at_have, at_value, at_seen, at_confirm, at_finish}
-use Rattle.theory.specs.Book.{Page}
+use Rattle.theory.specs.Book.{Page, Ledger}
 use Rattle.theory.specs.Machine.{Stage, unopened, awaiting, running, drop, Small, says, hears, stays, enters, leaves, small, Steps, does}
 use Rattle.theory.specs.Calls.{ranged}
 use Rattle.replica.specs.declared.state.Replica.{Replica}
@@ -12,9 +14,9 @@ use Rattle.replica.specs.declared.state.Stage.TheVariants.{Unopened, Open, Await
 use Rattle.replica.specs.Store.{Store}
 use Rattle.replica.specs.View.{stage_of, leading, view, plan, book_of, box}
 use Rattle.replica.proofs.Putting.{Vacant, box_put}
-use Rattle.turns.specs.Stepping.{stage_in, with_stage, left_of, with_page, filed_of, step_of, steps_of}
+use Rattle.turns.specs.Stepping.{stage_in, with_stage, left_of, with_page, filed, filed_of, step_of, steps_of}
 use Rattle.turns.specs.Ties.{Whole, Tied}
-use Rattle.turns.proofs.Leaving.{view_left, head_more}
+use Rattle.turns.proofs.Leaving.{view_left, head_more, next_some}
 use Rattle.turns.proofs.Keeping.{held_whole, stage_whole, left_whole, Next, in_heads, book_more, page_whole}
 
 stage_back : (g : Stage) → stage_of (stage_in g) ≡ g
@@ -58,14 +60,13 @@ module _ (m : Replica) (t : Store) where
   Fit (hears j st) = ⊥
   Fit (stays g) = (r : ℕ) (d : Bool) → g ≡ running r d → r < rounds
   Fit (enters e v) = (e ≡ m.epoch) × (m.epoch < epochs)
-  Fit (leaves None) = m.epoch < epochs
-  Fit (leaves (Some p)) = (m.epoch < epochs) × Next m t p
+  Fit (leaves l) = (m.epoch < epochs) × ((l ≡ (box m t).ledger) ⊎ ((p : Page (List ℕ)) × Next m t p × (l ≡ filed (Some p) (box m t).ledger)))
 
   module _ (W : Whole m t) where
-    box_left : m.epoch < epochs → box (left_of m) t ≡ small (leaves None) (box m t)
+    box_left : m.epoch < epochs → box (left_of m) t ≡ small (leaves (box m t).ledger) (box m t)
     box_left l = λ z. record { me = m.set.me; epoch = add-one m.epoch z; stage = unopened; mem = λ j c. view_left m t l W.past j c z; ledger = (box m t).ledger }
 
-    box_page : (p : Page (List ℕ)) → Next m t p → m.epoch < epochs → box (left_of (filed_of (Some p) m t).0) (filed_of (Some p) m t).1 ≡ small (leaves (Some p)) (box m t)
+    box_page : (p : Page (List ℕ)) → Next m t p → m.epoch < epochs → box (left_of (filed_of (Some p) m t).0) (filed_of (Some p) m t).1 ≡ small (leaves (filed (Some p) (box m t).ledger)) (box m t)
     box_page p x l = λ z. record {
       me = m.set.me;
       epoch = add-one m.epoch z;
@@ -81,13 +82,25 @@ module _ (m : Replica) (t : Store) where
         let r : ranged (plan k) (box k t) (value e 0 v) ≡ true = and_from _ _ refl (and_from _ _ (lt-ltb e epochs (omega arith)) (eq-eqb e m.epoch h)) in
         (held_whole k t V m.set.me (value e 0 v), box_put k t m.set.me V.sized V.lent m.set.own (value e 0 v) r tt ∙ ap (small (hears m.set.me (value e 0 v))) (box_stage (Open 0 false)))
 
+    -- what is left when the ledger brings a page, or none
+    abbrev Goes : Ledger (List ℕ) → Option (Page (List ℕ)) → Type 0
+    Goes l o = Tied m t (leaves l ∷ []) (left_of (filed_of o m t).0) (filed_of o m t).1
+
+    gone : (l : Ledger (List ℕ)) → Fit (leaves l) → Goes l (slice_get l.book m.pages)
+    gone l f = ⊎_elim
+        (λ (e : l ≡ (box m t).ledger). subst (λ k. Goes k (slice_get k.book m.pages)) (sym e)
+          (subst (Goes (box m t).ledger) (sym (slice_get_past (book_of m t) m.pages (omega (arith, W.filled)))) (left_whole m t W f.0, box_left f.0)))
+        (λ (n : (p : Page (List ℕ)) × Next m t p × (l ≡ filed (Some p) (box m t).ledger)). let p = n.0 in let x = n.1.0 in
+          subst (λ k. Goes k (slice_get k.book m.pages)) (sym n.1.1)
+          (subst (Goes (filed (Some p) (box m t).ledger)) (sym (next_some (book_of m t) m.pages p W.filled)) (left_whole _ _ (page_whole m t W p x) f.0, box_page p x f.0)))
+        f.1
+
     pub tied : (s : Small (List ℕ)) → Fit s → Tied m t (s ∷ []) (step_of s m t).0 (step_of s m t).1
     tied (says st) f = (held_whole m t W m.set.me st, box_put m t m.set.me W.sized W.lent m.set.own st f.0 f.1)
     tied (hears j st) f = absurd f
     tied (stays g) f = (stage_whole m t W (stage_in g) (λ r d e. f r d (stage_round g r d e)), box_stage (stage_in g) ∙ ap (λ h. small (stays h) (box m t)) (stage_back g))
     tied (enters e v) f = entered e v f.0 f.1
-    tied (leaves None) f = (left_whole m t W f, box_left f)
-    tied (leaves (Some p)) f = (left_whole _ _ (page_whole m t W p f.1) f.0, box_page p f.1 f.0)
+    tied (leaves l) f = gone l f
 
 -- each step fits, after those before it
 abbrev pub Fits : Steps (List ℕ) → Replica → Store → Type 0

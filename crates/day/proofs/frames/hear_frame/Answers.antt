@@ -12,7 +12,7 @@ returns-in-Err g c =
     let k = g.K.Entry in
     let l = c.loop-found in
     let r : Run = (vec_items l.text, l.replica, store k.bytes l.tables) in
-    ap (λ text. (text, l.replica, store k.bytes l.tables)) c.in_ok-push_refused.ensures
+    ap (λ text. (text, l.replica, store k.bytes l.tables)) c.in_ok-push_refused-in-Err.ensures
     ∙ stops k.width k.valid c.args.sender c.args.start c.args.frame.now l.place l.invariant.0 r _ l.invariant.1 (number_of c.in-Err.refusal) (sym c.in-Err.ensures.value)
 
 pub returns-in_default : goal.returns-in_default

@@ -16,7 +16,7 @@ loop-i-preserved g c =
     let left = c.loop-i.left in
     let low : i < length board = omega (arith, c.loop-i-test.true, c.places-end.ensures t) in
     elim c.match-claim_at.branch [
-      | in-Some w ↦ subst (λ n. Going k (i + 1) n board) (sym w.left-is) (going_some k i left board (claim_of b w.in-Some.-claim) c.loop-i.invariant low c.if-left-eq0.false w.in-Some.ensures)
+      | in-Some w ↦ subst (λ n. Going k (i + 1) n board) (sym w.left-is) (going_some k i left board (claim_of b w.in-Some._claim) c.loop-i.invariant low c.if-left-eq0.false w.in-Some.ensures)
       | in_default w ↦ subst (λ n. Going k (i + 1) n board) (sym w.left-is) (going_none k i left board c.loop-i.invariant low w.in_default.ensures)
     ]
 

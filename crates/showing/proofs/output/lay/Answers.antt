@@ -53,7 +53,7 @@ loop-i-preserved g c =
     let b = g.K.Entry.bytes in
     let t = store b c.args.tables.now in
     let within = c.loop-i.invariant.0 in
-    elim c.match-claim-at.branch [
+    elim c.match-claim_at.branch [
       | goal.in-Some+in-Ok w ↦
           let l = onward c.args.replica.now t c.loop-i.i _ (Some (claim_of b w.in-Some.claim)) _ _ _ _ _ _ (c.places-i-end.ensures t) c.loop-i-test.true w.in-Some.ensures c.loop-i.invariant.1 in (
             omega (arith, w.next-is),
