@@ -90,8 +90,8 @@ module _ (m : Replica) (t : Store) where
     gone l f = ⊎_elim
         (λ (e : l ≡ (box m t).ledger). subst (λ k. Goes k (slice_get k.book m.pages)) (sym e)
           (subst (Goes (box m t).ledger) (sym (slice_get_past (book_of m t) m.pages (omega (arith, W.filled)))) (left_whole m t W f.0, box_left f.0)))
-        (λ (n : (p : Page (List ℕ)) × Next m t p × (l ≡ filed (Some p) (box m t).ledger)). let p = n.0 in let x = n.1.0 in
-          subst (λ k. Goes k (slice_get k.book m.pages)) (sym n.1.1)
+        (λ (n : (p : Page (List ℕ)) × Next m t p × (l ≡ filed (Some p) (box m t).ledger)). let p = n.0 in let x = n.1 in
+          subst (λ k. Goes k (slice_get k.book m.pages)) (sym n.2)
           (subst (Goes (filed (Some p) (box m t).ledger)) (sym (next_some (book_of m t) m.pages p W.filled)) (left_whole _ _ (page_whole m t W p x) f.0, box_page p x f.0)))
         f.1
 

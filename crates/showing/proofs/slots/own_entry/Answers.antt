@@ -9,7 +9,7 @@ get-requires g c =
     let s = c.args.set.now in
     omega (arith, row_inside s.n s.w s.me c.args.j s.own s.some c.requires.low, c.requires.long)
 
-pub overflow_cast-result : goal.overflow-cast-result
+pub overflow_cast-result : goal.overflow_cast-result
 overflow_cast-result g c =
     let s = c.args.set.now in
     let low = row_low s.n s.w s.me c.args.j s.own s.some c.requires.low in
