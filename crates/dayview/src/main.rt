@@ -14,6 +14,7 @@ use showing::show;
 use std::alloc::{AllocError, Global};
 use std::env;
 use std::io::{Read, Write};
+use std::process::ExitCode;
 
 const USAGE: &str = "usage: dayview reading|order N OWN W < day";
 
@@ -25,7 +26,7 @@ const ROWS: usize = 4096;
 // More bytes than the board and the file of the largest set have.
 const ROOM: usize = 65536;
 
-fn main(rt: HostRuntime) -> anyhow::Result<()> {
+fn main(rt: HostRuntime) -> anyhow::Result<ExitCode> {
     let mut args = env::args(&rt)?;
     let _program = args.next();
     let Some(kind) = args.next() else {
@@ -44,10 +45,11 @@ fn main(rt: HostRuntime) -> anyhow::Result<()> {
         return usage(&rt);
     }
     match kind.as_str() {
-        "reading" => view::<Reading>(&rt, n, own, w),
-        "order" => view::<ShareOrder>(&rt, n, own, w),
-        _ => usage(&rt),
+        "reading" => view::<Reading>(&rt, n, own, w)?,
+        "order" => view::<ShareOrder>(&rt, n, own, w)?,
+        _ => return usage(&rt),
     }
+    Ok(ExitCode::SUCCESS)
 }
 
 fn number(arg: Option<String>) -> Option<u8> {
@@ -141,7 +143,7 @@ fn refused(rt: &HostRuntime, refusal: Refusal) -> anyhow::Result<()> {
     Ok(())
 }
 
-fn usage(rt: &HostRuntime) -> anyhow::Result<()> {
+fn usage(rt: &HostRuntime) -> anyhow::Result<ExitCode> {
     eprintln!(rt; "{USAGE}")?;
-    Err(USAGE.into())
+    Ok(ExitCode::FAILURE)
 }

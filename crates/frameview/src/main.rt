@@ -4,10 +4,11 @@ use entry::{Entry, Reading, ShareOrder};
 use listing::record;
 use std::env;
 use std::io::{Read, Write};
+use std::process::ExitCode;
 
 const USAGE: &str = "usage: frameview reading|order < frame";
 
-fn main(rt: HostRuntime) -> anyhow::Result<()> {
+fn main(rt: HostRuntime) -> anyhow::Result<ExitCode> {
     let mut args = env::args(&rt)?;
     let _program = args.next();
     let Some(kind) = args.next() else {
@@ -17,10 +18,11 @@ fn main(rt: HostRuntime) -> anyhow::Result<()> {
         return usage(&rt);
     }
     match kind.as_str() {
-        "reading" => show::<Reading>(&rt),
-        "order" => show::<ShareOrder>(&rt),
-        _ => usage(&rt),
+        "reading" => show::<Reading>(&rt)?,
+        "order" => show::<ShareOrder>(&rt)?,
+        _ => return usage(&rt),
     }
+    Ok(ExitCode::SUCCESS)
 }
 
 fn show<K: Entry>(rt: &HostRuntime) -> anyhow::Result<()> {
@@ -32,7 +34,7 @@ fn show<K: Entry>(rt: &HostRuntime) -> anyhow::Result<()> {
     Ok(())
 }
 
-fn usage(rt: &HostRuntime) -> anyhow::Result<()> {
+fn usage(rt: &HostRuntime) -> anyhow::Result<ExitCode> {
     eprintln!(rt; "{USAGE}")?;
-    Err(USAGE.into())
+    Ok(ExitCode::FAILURE)
 }
