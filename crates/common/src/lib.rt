@@ -1,6 +1,8 @@
 // Common ground of every crate: the numbered refusals, the limits of a set of replicas, and the quorum
 // table. A refusal's number is given here once and by nothing else.
 // No entries, no bytes and no state live here.
+#![tactic(auto)]
+
 mod limits;
 mod quorums;
 mod refusal;

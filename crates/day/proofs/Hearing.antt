@@ -3,7 +3,7 @@ use Rattle.std.proofs.Common.{◌≡◌, ℕ, zero, suc, ◌+◌, ◌<◌, ◌�
 use Rattle.wire.specs.Frames.{next_of, Walk, walk_of}
 use Rattle.wire.specs.Frames as frames
 use Rattle.wire.proofs.Walking.{next_first, walk_first}
-use Rattle.day.specs.Days.{Run, heard_at, onward, frame_from, frame_of, heard_all, Heard}
+use Rattle.day.specs.Days.{Run, heard_at, onward, frame_from, heard_all, Heard}
 use Rattle.day.proofs.Going.{inside}
 
 -- the statements of a walk, heard

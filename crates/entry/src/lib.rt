@@ -2,6 +2,8 @@
 // its entries, their sameness and their columns in the file. The replica above is written once, for
 // every kind, and knows no more of one than the trait `Entry` says.
 // Statements, frames and cells are not here.
+#![tactic(auto)]
+
 mod house;
 mod houses;
 mod kind;

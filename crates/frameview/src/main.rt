@@ -1,5 +1,7 @@
 // Reads a frame from standard input and prints its record. The argument names the kind of entry.
 // Every record that is printed is made by `listing::record`.
+#![tactic(auto)]
+
 use entry::{Entry, Reading, ShareOrder};
 use listing::record;
 use std::env;

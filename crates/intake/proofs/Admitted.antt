@@ -1,7 +1,7 @@
 -- What is admitted is what the message means, in range and of the current epoch; and no other check stands in the way.
 use Rattle.std.proofs.Common.{◌≡◌, ℕ, Bool, true, false, cond, ◌&&◌, ◌||◌, eqb, ltb, leb, List, Some, None, Ok, Err, Option, Result, sym, refl, ap, ◌∙◌, subst, arith}
 use Rattle.std.specs.Option.{option_map}
-use Rattle.std.proofs.lemmas.Bool.{ltb-true, ltb-false, leb-false, lt-ltb, le-ltb, lt-leb, eqb-true, eq-eqb, and_parts, and_from, or_parts, or_from, cases_Bool}
+use Rattle.std.proofs.lemmas.Bool.{ltb-true, ltb-false, leb-false, lt-ltb, le-ltb, lt-leb, eqb-true, eq-eqb, and_parts, and_from, or_parts}
 use Rattle.common.specs.Limits.{epochs, rounds}
 use Rattle.theory.specs.Statement as theory
 use Rattle.theory.specs.Statement.{Bits, Stmt}

@@ -1,16 +1,15 @@
 -- Bytes are accepted exactly if they say what the theory's box accepts.
-use Rattle.std.proofs.Common.{◌≡◌, ℕ, Bool, true, false, not, ◌&&◌, ◌||◌, eqb, ltb, leb, List, Some, None, Ok, Err, Option, Result, sym, refl, ap, ◌∙◌, arith}
+use Rattle.std.proofs.Common.{◌≡◌, ℕ, Bool, true, false, not, ◌||◌, eqb, ltb, leb, List, Some, None, Ok, Option, Result, sym, refl, ap, ◌∙◌, arith}
 use Rattle.std.proofs.lemmas.Bool.{ltb-true, leb-false, lt-ltb, lt-leb, not-false, not-true, not_from_false, and_parts, and_from, or_parts}
 use Rattle.theory.specs.Statement.{Stmt, StmtEq, cell, decided}
 use Rattle.theory.specs.Calls.{ranged, accepts}
 use Rattle.theory.specs.Search.{absent}
-use Rattle.wire.specs.Statements.{Message}
 use Rattle.wire.specs.Codec.{parse_of}
 use Rattle.replica.specs.declared.state.Replica.{Replica}
 use Rattle.replica.specs.Store.{Store, fits}
 use Rattle.replica.specs.View.{view, plan, box, bytes_same}
 use Rattle.replica.specs.Holding.{taken_of, settled, vacant_of}
-use Rattle.intake.specs.Hearing.{and_then, admit_of, judge_of}
+use Rattle.intake.specs.Hearing.{admit_of, judge_of}
 use Rattle.intake.specs.Meaning.{Says}
 use Rattle.intake.proofs.Admitted.{passed, passed_then, admitted, admits}
 

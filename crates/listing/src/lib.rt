@@ -1,6 +1,8 @@
 // The record of a frame: its statements as rows of a table, for a person to read. Everything is a function
 // on values; the program that reads a frame and prints its record only calls `record`.
 // What a replica makes of a statement is not here.
+#![tactic(auto)]
+
 mod cells;
 mod listing;
 mod lists;

@@ -1,25 +1,22 @@
 -- One call at a whole replica is one call of the theory's box.
-use Rattle.std.proofs.Common.{◌≡◌, ℕ, Bool, true, false, cond, not, ◌&&◌, eqb, ltb, leb, ◌⊎◌, List, [], ◌∷◌, Some, None, Ok, Err, Option, Result, sym, refl, ap, ◌∙◌, subst, inl, inr, arith}
-use mathlib.Core.Bool.{false≢true}
+use Rattle.std.proofs.Common.{◌≡◌, ℕ, Bool, true, false, cond, not, ltb, leb, ◌⊎◌, List, [], ◌∷◌, Some, None, Ok, Err, Option, Result, sym, refl, ap, ◌∙◌, subst, inl, inr}
 use Rattle.std.specs.List.{slice_get}
-use Rattle.std.proofs.lemmas.Bool.{ltb-true, eq-eqb, and_left, and_right, not_from_true, cases_Bool}
+use Rattle.std.proofs.lemmas.Bool.{ltb-true, eq-eqb, and_right, cases_Bool}
 use Rattle.common.specs.Limits.{epochs}
 use Rattle.common.specs.Refusals.{declined}
 use Rattle.common.specs.declared.refusal.Refusal.TheVariants.{Table, Over}
 use Rattle.theory.specs.Statement.{Stmt, sends}
 use Rattle.theory.specs.Book.{Page}
-use Rattle.theory.specs.Machine.{Box, Small, says, hears, stays, enters, leaves, small, Steps, does}
+use Rattle.theory.specs.Machine.{Small, says, hears, stays, enters, leaves, small, Steps, does}
 use Rattle.theory.specs.Search.{map}
 use Rattle.theory.specs.Calls as theory
-use Rattle.theory.proofs.Books.{none≢some}
 use Rattle.wire.specs.Codec.{parse_of}
-use Rattle.replica.specs.declared.set.Set as numbers
 use Rattle.replica.specs.declared.state.Replica.{Replica}
 use Rattle.replica.specs.Store.{Store, fits}
 use Rattle.replica.specs.View.{plan, box}
 use Rattle.replica.specs.Holding.{held_of}
-use Rattle.intake.specs.Hearing.{judge_of, heard, hear_of}
-use Rattle.intake.specs.Submitting.{offer_of, submit_of}
+use Rattle.intake.specs.Hearing.{judge_of, heard}
+use Rattle.intake.specs.Submitting.{offer_of}
 use Rattle.replica.proofs.Putting.{box_held}
 use Rattle.intake.proofs.Heard.{ok≢err}
 use Rattle.intake.proofs.Judged.{judged, accepted, judges}

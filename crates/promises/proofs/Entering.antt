@@ -1,12 +1,12 @@
 -- Entries that a box holds came to it by a call: a test that all entries of calls pass, all that it holds pass.
-use Rattle.std.proofs.Common.{◌≡◌, ℕ, suc, ◌<◌, Bool, true, false, cond, ◌&&◌, eqb, ltb, ◌⊎◌, List, [], ◌∷◌, Some, None, Option, sym, refl, ap, ◌∙◌, subst, inl, inr, arith}
+use Rattle.std.proofs.Common.{◌≡◌, ℕ, suc, ◌<◌, Bool, true, false, ◌&&◌, eqb, ltb, [], ◌∷◌, Some, None, Option, sym, refl, ap, ◌∙◌, subst, inl, inr}
 use Rattle.std.proofs.lemmas.Bool.{cond_both}
-use Rattle.theory.specs.Statement.{Stmt, sends, echo, ready, have, value, seen, confirm, finish, Cell, cell, entry_stated}
+use Rattle.theory.specs.Statement.{Stmt, sends, echo, ready, have, value, Cell, cell, entry_stated}
 use Rattle.theory.specs.Plan.{Plan}
-use Rattle.theory.specs.Machine.{same_cell, Mem, put, Stage, unopened, awaiting, running, Box, Holds, Small, says, hears, stays, enters, leaves, small, Steps, does}
+use Rattle.theory.specs.Machine.{same_cell, Mem, put, Box, Small, says, hears, stays, enters, leaves, small, Steps, does}
 use Rattle.theory.specs.Search.{map}
 use Rattle.theory.specs.Calls.{Turn, to_echo, to_ready, to_keep, to_follow, to_decide, to_write, to_second, to_see, to_confirm, to_close, stated, in_round, in_week, deciding, finishing, closing, way, turn, accepts, opening, takes, Call, submit, opens, hear, turns, or_none, steps}
-use Rattle.theory.specs.Rules.{Lowest, FromElse}
+use Rattle.theory.specs.Rules.{FromElse}
 use Rattle.theory.specs.Laws.{Filed, Ten, SlotLaw}
 use Rattle.theory.proofs.Books.{none≢some}
 use Rattle.theory.proofs.Memory.{drop_some}

@@ -1,11 +1,11 @@
 -- The script by bytes meets every premise, since it is the theory's script.
-use Rattle.std.proofs.Common.{◌≡◌, ℕ, zero, suc, ◌+◌, ◌*◌, ◌<◌, ◌≤◌, Bool, true, false, not, List, [], ◌∷◌, length, replicate, None, Ok, sym, refl, ap, ◌∙◌, subst, arith}
+use Rattle.std.proofs.Common.{◌≡◌, ℕ, zero, suc, ◌+◌, ◌*◌, ◌<◌, ◌≤◌, true, not, List, [], ◌∷◌, length, replicate, None, sym, refl, ◌∙◌, subst, arith}
 use mathlib.Core.Bool.{false≢true}
 use Rattle.std.proofs.lemmas.Bool.{eqb-true, ltb-true, and_parts}
 use Rattle.common.specs.Limits.{most_replicas, epochs}
 use Rattle.common.specs.Quorums.{faults, echoes}
 use Rattle.theory.specs.Count.{count}
-use Rattle.theory.specs.Statement.{Stmt, sends, echo, ready}
+use Rattle.theory.specs.Statement.{sends, echo, ready}
 use Rattle.theory.specs.Plan.{Rule}
 use Rattle.theory.specs.Machine.{Board, Holds}
 use Rattle.theory.specs.Calls as theory
@@ -16,7 +16,6 @@ use Rattle.theory.proofs.ByteExample as boxes
 use Rattle.entry.specs.Readings.{is_reading}
 use Rattle.votes.specs.Votes.{no_votes}
 use Rattle.replica.specs.declared.set.Set as numbered
-use Rattle.replica.specs.declared.state.Replica.{Replica}
 use Rattle.replica.specs.declared.state.Stage.TheVariants.{Unopened}
 use Rattle.replica.specs.Store.{Store}
 use Rattle.replica.specs.Making.{make_of}
@@ -25,7 +24,7 @@ use Rattle.promises.specs.Promised.{Made, Set, Honest, Lending}
 use Rattle.promises.specs.Met.{script, Met}
 use Rattle.promises.proofs.Typing.{few_room, quorums_cross, some_round, calls}
 use Rattle.promises.proofs.Transferring.{R, honest_box, on_board}
-use Rattle.promises.proofs.Meeting.{own, own_lending, fair_here, quiet_here, book_here, holds_here}
+use Rattle.promises.proofs.Meeting.{own_lending, fair_here, quiet_here, book_here, holds_here}
 
 abbrev kind : Kind
 kind = record { width = 8; valid = is_reading; wide = λ s e. eqb-true (length s) 8 (and_parts _ _ e).0 }

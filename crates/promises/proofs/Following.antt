@@ -1,20 +1,18 @@
 -- After every list of calls, each honest replica is the theory's box after the same calls by statements.
-use Rattle.std.proofs.Common.{◌≡◌, ℕ, ◌<◌, Bool, true, false, cond, eqb, ◌⊎◌, List, [], ◌∷◌, ◌++◌, Some, None, Ok, Option, sym, refl, ap, ◌∙◌, subst, inl, inr}
-use Rattle.std.proofs.lemmas.Bool.{eqb-true, cases_Bool}
+use Rattle.std.proofs.Common.{◌≡◌, ℕ, Bool, true, false, eqb, List, [], ◌∷◌, Some, None, Option, sym, refl, ap, ◌∙◌, subst}
+use Rattle.std.proofs.lemmas.Bool.{eqb-true}
 use Rattle.theory.specs.Plan.{Plan}
 use Rattle.theory.specs.Machine.{Box, does}
 use Rattle.theory.specs.Calls as theory
-use Rattle.replica.specs.declared.set.Set as numbered
 use Rattle.replica.specs.declared.state.Replica.{Replica}
 use Rattle.replica.specs.Store.{Store, fits}
 use Rattle.replica.specs.View.{plan, box}
 use Rattle.replica.specs.Making.{Numbers, numbers}
-use Rattle.replica.specs.Making.{set_for}
 use Rattle.replica.proofs.Freshness.{accepted_numbers}
 use Rattle.turns.specs.Ties.{Whole}
-use Rattle.promises.specs.Runs.{Kind, Call, Asked, State, call_of, left, after}
-use Rattle.promises.specs.Promised.{Set, Honest, state, Lent, Lending, Fair}
-use Rattle.promises.proofs.Typing.{plan_from, numbers_in, rule, idle, typed, calls}
+use Rattle.promises.specs.Runs.{Call, Asked, State, left}
+use Rattle.promises.specs.Promised.{Set, Honest, state, Lending}
+use Rattle.promises.proofs.Typing.{plan_from, numbers_in, idle, typed, calls}
 use Rattle.promises.proofs.Calling.{idle_does, call_done, short_stays}
 use Rattle.promises.proofs.Starting.{begins_made, set_is, whole_made, box_made}
 

@@ -1,29 +1,24 @@
 -- Where the theory's boxes meet a premise, the replicas of a set meet it.
-use Rattle.std.proofs.Common.{◌≡◌, ℕ, ◌<◌, Bool, true, false, ◌&&◌, ◌⊎◌, List, [], ◌∷◌, Some, None, Ok, Option, Result, sym, refl, ap, ◌∙◌, subst, inl, inr}
+use Rattle.std.proofs.Common.{◌≡◌, ℕ, Bool, true, false, ◌&&◌, List, [], ◌∷◌, Some, None, Ok, Option, Result, sym, refl, ap, ◌∙◌, subst, inl, inr}
 use mathlib.Core.Bool.{false≢true}
-use Rattle.std.specs.List.{ContainsAt as Has}
 use Rattle.std.proofs.lemmas.Bool.{and_parts}
-use Rattle.theory.specs.Statement.{Stmt, cell}
-use Rattle.theory.specs.Machine.{Box, Board, Holds}
-use Rattle.theory.specs.Book.{Page}
+use Rattle.theory.specs.Statement.{Stmt}
+use Rattle.theory.specs.Machine.{Box, Holds}
 use Rattle.theory.specs.Search.{absent}
 use Rattle.theory.specs.Calls as theory
 use Rattle.theory.specs.Promises as theorem
 use Rattle.theory.proofs.Books.{none≢some}
 use Rattle.theory.proofs.Searching.{absent_none}
-use Rattle.wire.specs.Codec.{parse_of}
-use Rattle.replica.specs.declared.state.Replica.{Replica}
 use Rattle.replica.specs.Store.{Store, fits}
 use Rattle.replica.specs.View.{plan, box}
 use Rattle.intake.specs.Hearing.{hear_of}
 use Rattle.intake.specs.Meaning.{Says}
 use Rattle.intake.proofs.Heard.{hears_law}
-use Rattle.turns.specs.Turning.{turn_of}
 use Rattle.turns.specs.Ties.{number_in}
 use Rattle.turns.proofs.Tied.{ties}
 use Rattle.promises.specs.Runs.{Kind, Call, submit, opens, hear, turns, Asked}
-use Rattle.promises.specs.Promised.{Set, Honest, state, book, board, Shown, Authentic, Lent, Lending, Fair, Quiet}
-use Rattle.promises.proofs.Typing.{meant, says_meant, heard_as, call_as, typed, calls}
+use Rattle.promises.specs.Promised.{Set, Honest, state, book, Shown, Authentic, Lent, Lending, Fair, Quiet}
+use Rattle.promises.proofs.Typing.{says_meant, heard_as, call_as, typed, calls}
 use Rattle.promises.proofs.Following.{plan_is, follows}
 use Rattle.promises.proofs.Transferring.{R, honest_box, box_honest, on_box, on_board, accepts_same}
 use Rattle.promises.proofs.Valid.{board_says}

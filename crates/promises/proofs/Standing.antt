@@ -1,33 +1,29 @@
 -- The theorem over every list of calls.
-use Rattle.std.proofs.Common.{◌≡◌, ℕ, suc, ◌<◌, Bool, true, false, ◌⊎◌, List, [], ◌∷◌, ◌++◌, Some, None, Ok, Option, Result, sym, refl, ap, ◌∙◌, subst, inl, inr, ⊎_elim, arith}
-use Rattle.std.specs.List.{ContainsAt as Has}
+use Rattle.std.proofs.Common.{◌≡◌, ℕ, ◌<◌, Bool, true, false, ◌⊎◌, List, [], ◌∷◌, ◌++◌, Some, None, Ok, Option, sym, refl, ap, ◌∙◌, subst, inl, inr, ⊎_elim, arith}
 use Rattle.std.proofs.lemmas.Bool.{lt-leb, cases_Bool, cond_both}
 use Rattle.common.specs.Limits.{epochs}
 use Rattle.theory.specs.Statement.{Stmt}
-use Rattle.theory.specs.Plan.{sameness}
 use Rattle.theory.specs.Book.{Page, Begins, Once, Each}
-use Rattle.theory.specs.Machine.{Stage, awaiting, Box, Board, Steps}
+use Rattle.theory.specs.Machine.{Box, Board, Steps}
 use Rattle.theory.specs.Turns.{decides}
 use Rattle.theory.specs.Calls as theory
 use Rattle.theory.specs.Promises as theorem
-use Rattle.theory.proofs.Books.{none≢some}
 use Rattle.theory.proofs.Searching.{only_if_some}
 use Rattle.theory.proofs.Accepting.{open_law}
 use Rattle.theory.proofs.Fairness.{box_sound}
 use Rattle.theory.proofs.Quieting.{each_like, promise}
 use Rattle.replica.specs.declared.state.Replica.{Replica}
-use Rattle.replica.specs.declared.state.Stage.TheVariants.{Awaiting}
 use Rattle.replica.specs.Store.{Store}
 use Rattle.replica.specs.View.{same_bytes, stage_of, plan, box}
 use Rattle.intake.specs.Submitting.{unused_of, submit_of}
 use Rattle.intake.proofs.Submitted.{submits_law}
-use Rattle.turns.specs.Turning.{open_of, turn_of}
+use Rattle.turns.specs.Turning.{open_of}
 use Rattle.turns.specs.Ties.{Whole, number_in}
 use Rattle.turns.proofs.Tied.{ties}
-use Rattle.promises.specs.Runs.{Kind, Call, submit, opens, hear, turns, Asked, State}
-use Rattle.promises.specs.Promised.{Set, Honest, state, book, board, Lending, Fair, Submits, Submitted, Opens, Opened, Quiet, Promises, Promise}
-use Rattle.promises.proofs.Typing.{meant, heard_as, typed, calls}
-use Rattle.promises.proofs.Following.{Follows, plan_is, follows}
+use Rattle.promises.specs.Runs.{Kind, Call, submit, opens, hear, turns, Asked}
+use Rattle.promises.specs.Promised.{Set, Honest, state, book, Lending, Fair, Submits, Submitted, Opens, Opened, Quiet, Promises, Promise}
+use Rattle.promises.proofs.Typing.{heard_as, typed, calls}
+use Rattle.promises.proofs.Following.{plan_is, follows}
 use Rattle.promises.proofs.Transferring.{R, honest_box, box_honest, fair_lending, on_board, hears_it, fair_box}
 use Rattle.promises.proofs.Valid.{board_says}
 

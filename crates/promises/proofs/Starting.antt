@@ -1,20 +1,18 @@
 -- A replica as make left it is whole, and the theory's box as it begins.
-use Rattle.std.proofs.Common.{◌≡◌, ℕ, zero, suc, ◌*◌, ◌<◌, ◌≤◌, Bool, true, false, cond, ◌&&◌, leb, List, length, get_or, take, replicate, Some, None, Ok, Err, Option, Result, sym, refl, ap, ◌∙◌, subst, arith}
-use Rattle.common.specs.Limits.{most_replicas, epochs, rounds}
+use Rattle.std.proofs.Common.{◌≡◌, ℕ, Bool, true, false, cond, length, get_or, take, Ok, Err, Result, sym, refl, ap, ◌∙◌, subst, arith}
+use Rattle.common.specs.Limits.{most_replicas}
 use Rattle.common.specs.Refusals.{declined}
 use Rattle.common.specs.declared.refusal.Refusal.TheVariants.{Table}
 use Rattle.theory.specs.Machine.{made}
 use Rattle.replica.specs.declared.state.Replica.{Replica}
-use Rattle.replica.specs.declared.state.Stage.TheVariants.{Unopened, Open}
-use Rattle.replica.specs.Store.{Store, fits, cleared, Empty, Wiped}
-use Rattle.replica.specs.View.{leading, book_of, box}
+use Rattle.replica.specs.declared.state.Stage.TheVariants.{Unopened}
+use Rattle.replica.specs.Store.{Store, fits, cleared, Wiped}
+use Rattle.replica.specs.View.{leading, box}
 use Rattle.replica.specs.Making.{Numbers, numbers, Plain, plain, set_for, fresh, begun, make_of}
 use Rattle.replica.proofs.Wiping.{wiped}
 use Rattle.replica.proofs.Freshness.{all_same, accepted_numbers, fresh_begins}
 use Rattle.intake.proofs.Heard.{ok≢err}
-use Rattle.turns.specs.Ties.{total, Whole}
-use Rattle.promises.specs.Promised.{Set, Made}
-use Rattle.promises.proofs.Typing.{numbers_in}
+use Rattle.turns.specs.Ties.{Whole}
 
 -- what an accepted make tells
 pub record Begun (n i w : ℕ) (m : Replica) (t : Store) : Type 0 where

@@ -1,29 +1,25 @@
 -- What the theory promises of its boxes, the replicas of a set promise.
-use Rattle.std.proofs.Common.{◌≡◌, ℕ, ◌<◌, ◌≤◌, Bool, true, false, cond, eqb, ltb, ◌⊎◌, List, [], ◌∷◌, ◌++◌, Some, None, Ok, Err, Option, Result, sym, refl, ap, ◌∙◌, subst, inl, inr, ⊎_elim, arith}
+use Rattle.std.proofs.Common.{◌≡◌, ℕ, true, false, List, [], ◌∷◌, Some, None, Ok, Option, sym, refl, ap, ◌∙◌, subst, inl, inr}
 use mathlib.Core.Bool.{false≢true}
 use Rattle.std.specs.List.{ContainsAt as Has}
 use Rattle.std.proofs.lemmas.Bool.{eq-eqb, and_parts, not-true, cond_both}
-use Rattle.common.specs.Quorums.{faults}
 use Rattle.theory.specs.Count as count
-use Rattle.theory.specs.Statement.{Stmt, sends, cell, entry_stated}
+use Rattle.theory.specs.Statement.{Stmt, sends}
 use Rattle.theory.specs.Plan.{Rule, boxes}
 use Rattle.theory.specs.Machine.{Box, Board}
 use Rattle.theory.specs.Calls as theory
 use Rattle.theory.specs.Promises as theorem
 use Rattle.theory.proofs.Books.{none≢some}
-use Rattle.theory.proofs.Choosing.{alone_filed}
 use Rattle.wire.specs.Codec.{parse_of}
-use Rattle.replica.specs.declared.state.Replica.{Replica}
 use Rattle.replica.specs.Store.{Store, fits}
 use Rattle.replica.specs.View.{plan, box}
-use Rattle.showing.specs.Boards.{board_of}
 use Rattle.showing.proofs.Filling.{board_all, board_only}
 use Rattle.intake.specs.Hearing.{hear_of}
 use Rattle.intake.specs.Meaning.{Says}
 use Rattle.intake.proofs.Heard.{hears_law}
-use Rattle.promises.specs.Runs.{Kind, Call, submit, opens, hear, turns, Asked, State}
+use Rattle.promises.specs.Runs.{Call, submit, opens, hear, turns, Asked}
 use Rattle.promises.specs.Promised.{Set, Honest, state, board, Shown, Authentic, Lent, Lending, Fair}
-use Rattle.promises.proofs.Typing.{rule, meant, meant_says, idle, heard_as, call_as, typed, calls}
+use Rattle.promises.proofs.Typing.{rule, meant, meant_says, heard_as, call_as, typed, calls}
 use Rattle.promises.proofs.Following.{Follows, plan_is, me_is, follows}
 
 module _ (S : Set) where

@@ -1,5 +1,5 @@
 -- Calls by bytes as the theory's calls by statements, and a set of replicas as the theory's rule.
-use Rattle.std.proofs.Common.{◌≡◌, ℕ, ◌+◌, ◌*◌, ◌%◌, ◌<◌, ◌≤◌, Bool, true, false, cond, List, [], ◌∷◌, Some, None, Ok, Err, Option, Result, sym, refl, ap, ◌∙◌, arith}
+use Rattle.std.proofs.Common.{◌≡◌, ℕ, ◌+◌, ◌*◌, ◌%◌, ◌<◌, ◌≤◌, cond, List, [], ◌∷◌, Some, None, Ok, Err, Option, Result, refl, ap, ◌∙◌, arith}
 use Rattle.common.specs.Limits.{epochs, rounds}
 use Rattle.common.specs.Quorums.{faults, echoes}
 use Rattle.theory.specs.Statement.{Stmt, sends}
@@ -8,10 +8,9 @@ use Rattle.theory.specs.Calls as theory
 use Rattle.theory.proofs.Books.{none≢some}
 use Rattle.wire.specs.Statements.{Message}
 use Rattle.wire.specs.Codec.{parse_of}
-use Rattle.replica.specs.declared.state.Replica.{Replica}
 use Rattle.replica.specs.Store.{Store}
-use Rattle.replica.specs.View.{bytes_same, plan}
-use Rattle.replica.specs.Making.{Numbers, numbers}
+use Rattle.replica.specs.View.{bytes_same}
+use Rattle.replica.specs.Making.{Numbers}
 use Rattle.intake.specs.Meaning.{means_of, Says}
 use Rattle.promises.specs.Runs.{Kind, Call, submit, opens, hear, turns, Asked}
 use Rattle.promises.specs.Promised.{Set}

@@ -1,12 +1,11 @@
 -- Every entry that an honest replica holds is one of the kind, so what stands on its board can be read and heard.
-use Rattle.std.proofs.Common.{◌≡◌, ℕ, ◌<◌, Bool, true, false, cond, eqb, ◌⊎◌, List, [], ◌∷◌, length, Some, None, Ok, Option, sym, refl, ap, ◌∙◌, subst, inl, inr, arith}
+use Rattle.std.proofs.Common.{◌≡◌, ℕ, ◌<◌, Bool, true, false, eqb, List, [], ◌∷◌, Some, None, Option, sym, refl, ap, ◌∙◌, subst, arith}
 use Rattle.std.specs.Option.{option_map}
 use Rattle.std.proofs.lemmas.Bool.{cond_both, eqb-true}
-use Rattle.common.specs.Quorums.{faults}
 use Rattle.theory.specs.Count as count
 use Rattle.theory.specs.Statement as theory
 use Rattle.theory.specs.Statement.{Bits, only, both, Stmt, cell, entry_stated}
-use Rattle.theory.specs.Machine.{Box, Board, does}
+use Rattle.theory.specs.Machine.{Box, Board}
 use Rattle.theory.specs.Calls as calling
 use Rattle.theory.specs.Promises as theorem
 use Rattle.theory.proofs.Books.{none≢some}
@@ -14,16 +13,15 @@ use Rattle.theory.proofs.Choosing.{alone_filed}
 use Rattle.wire.specs.Statements.{Message, send, echo, ready, have, value, seen, confirm, finish}
 use Rattle.wire.specs.Codec.{parse_of}
 use Rattle.wire.proofs.Reading.{written_read}
-use Rattle.replica.specs.declared.state.Replica.{Replica}
-use Rattle.replica.specs.Store.{Store, fits}
-use Rattle.replica.specs.View.{held, view, box}
+use Rattle.replica.specs.Store.{Store}
+use Rattle.replica.specs.View.{held}
 use Rattle.showing.specs.Spoken.{number_of_set, spoken, spelled}
 use Rattle.showing.proofs.Standing.{stands}
 use Rattle.intake.specs.Hearing.{bit_numbered, set_numbered}
 use Rattle.intake.specs.Meaning.{means_of, Says}
 use Rattle.promises.specs.Runs.{Kind, Call, submit, opens, hear, turns, Asked}
 use Rattle.promises.specs.Promised.{Set, Honest, state, Lending}
-use Rattle.promises.proofs.Typing.{rule, few_room, meant, meant_says, idle, heard_as, call_as, typed, calls}
+use Rattle.promises.proofs.Typing.{few_room, meant, meant_says, idle, heard_as, call_as, typed, calls}
 use Rattle.promises.proofs.Entering.{Good, Holding, Clean, call_holds}
 use Rattle.promises.proofs.Following.{follows}
 use Rattle.promises.proofs.Transferring.{R, never_own}

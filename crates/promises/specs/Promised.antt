@@ -7,7 +7,6 @@ use Rattle.theory.specs.Statement.{Stmt}
 use Rattle.theory.specs.Book.{Page, Begins, Once, Each}
 use Rattle.theory.specs.Turns.{decides}
 use Rattle.theory.specs.Calls.{opening}
-use Rattle.replica.specs.declared.state.Replica.{Replica}
 use Rattle.replica.specs.declared.state.Stage.TheVariants.{Awaiting}
 use Rattle.replica.specs.Store.{Store, fits}
 use Rattle.replica.specs.View.{same_bytes, plan, book_of, box}
@@ -18,7 +17,7 @@ use Rattle.intake.specs.Meaning.{Says}
 use Rattle.intake.specs.Hearing.{hear_of}
 use Rattle.intake.specs.Submitting.{unused_of, submit_of}
 use Rattle.turns.specs.Turning.{open_of, turn_of}
-use Rattle.promises.specs.Runs.{Kind, Call, submit, opens, hear, turns, Asked, State, call_of, after}
+use Rattle.promises.specs.Runs.{Kind, Call, submit, opens, hear, turns, Asked, State, after}
 
 -- as an accepted make left replica i of n with w slots each, whatever its tables held
 abbrev pub Made : ℕ → ℕ → ℕ → State → Type 0

@@ -1,6 +1,8 @@
 // The promises: what honest replicas of a set keep to, after every list of submit, open, hear and turn. Here live
 // runs of calls over the definitions that the calls' own contracts cite, and the theorem, on a contract.
 // No code of a replica is here, and nothing of how the theory proves it.
+#![tactic(auto)]
+
 ghost use Rattle.promises.specs.Promised.{Promise};
 ghost use Rattle.promises.specs.Met.{Met};
 

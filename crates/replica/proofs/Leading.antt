@@ -1,10 +1,8 @@
 -- The book: the pages up to the first empty cell.
-use Rattle.std.proofs.Common.{◌≡◌, ℕ, zero, suc, ◌+◌, ◌<◌, ◌≤◌, Bool, true, false, ◌||◌, ◌⊎◌, List, [], ◌∷◌, length, get_or, take, drop, Some, None, Ok, MatchBool, Option, sym, refl, ap, ◌∙◌, inl, inr, add-one, arith}
+use Rattle.std.proofs.Common.{◌≡◌, ℕ, zero, suc, ◌+◌, ◌<◌, ◌≤◌, Bool, true, false, ◌||◌, ◌⊎◌, List, [], ◌∷◌, length, get_or, take, drop, Some, None, MatchBool, Option, sym, refl, ap, ◌∙◌, inl, inr, add-one, arith}
 use Rattle.std.specs.List.{slice_get}
 use Rattle.std.proofs.lemmas.Bool.{cases_lt}
 use Rattle.std.proofs.lemmas.List.{get_or-take, get_or_past, length-take, drop_all}
-use Rattle.common.specs.Refusals.{declined}
-use Rattle.common.specs.declared.refusal.Refusal.TheVariants as refusal
 use Rattle.theory.specs.Statement.{decided}
 use Rattle.theory.specs.Book.{Page, stands_in_book}
 use Rattle.theory.proofs.Memory.{decided_yes}

@@ -1,24 +1,24 @@
 -- To hold a statement in its cell is, in the theory's words, to hear it.
-use Rattle.std.proofs.Common.{◌≡◌, ℕ, ◌*◌, ◌<◌, ◌≤◌, Bool, true, false, cond, not, ◌&&◌, eqb, ltb, leb, ◌⊎◌, List, length, get_or, Some, None, Option, sym, refl, ap, ◌∙◌, inl, inr, arith, rules}
+use Rattle.std.proofs.Common.{◌≡◌, ℕ, ◌*◌, ◌<◌, ◌≤◌, Bool, true, false, cond, not, ◌&&◌, eqb, ltb, ◌⊎◌, List, length, get_or, Some, None, Option, sym, refl, ap, ◌∙◌, inl, inr, arith, rules}
 use Rattle.std.specs.Option.{option_map}
 use Rattle.std.proofs.lemmas.List.{length-set}
 use Rattle.std.proofs.lemmas.Nat.{mul-add-lt}
-use Rattle.std.proofs.lemmas.Bool.{ltb-true, lt-ltb, eqb-true, eq-eqb, ne_eqb, leb-true, and_parts, and_from, cond-true, cases_eq}
+use Rattle.std.proofs.lemmas.Bool.{ltb-true, lt-ltb, eqb-true, and_parts, and_from, cond-true, cases_eq}
 use Rattle.common.specs.Limits.{epochs, rounds}
 use Rattle.theory.specs.Statement.{Bits, only, both, Stmt, sends, echo, ready, have, value, seen, confirm, finish, Cell, at_send, at_echo, at_ready, at_have, at_value, at_seen, at_confirm, at_finish, CellDiscrete, cell}
-use Rattle.theory.specs.Machine.{same_cell, Mem, put, small, hears}
+use Rattle.theory.specs.Machine.{Mem, put, small, hears}
 use Rattle.theory.specs.Calls.{ranged}
 use Rattle.theory.specs.Turns.{set_of}
-use Rattle.theory.proofs.Memory.{put_new, put_other, put_away, decided_true, decided_yes}
+use Rattle.theory.proofs.Memory.{put_new, put_other, put_away}
 use Rattle.votes.specs.declared.marks.Marks.{Marks}
 use Rattle.votes.specs.Votes.{unmarked, marks, bit_of, set_for, mark, with_set}
 use Rattle.votes.proofs.Marking.{bit_other, bit_own, set_other, set_own, marks_own, marks_rest, marked}
 use Rattle.cells.specs.Rows.{Cells, slot_of, place_of}
 use Rattle.replica.specs.declared.state.Replica.{Replica}
 use Rattle.replica.specs.Store.{Store, fits}
-use Rattle.replica.specs.View.{held, row_cell, value_in, vote_cell, finish_cell, view, plan, box}
+use Rattle.replica.specs.View.{held, row_cell, value_in, vote_cell, view, plan, box}
 use Rattle.replica.specs.Holding.{Sized, in_set, entered, marked as marked-at, held_of}
-use Rattle.replica.proofs.Placing.{held_same, send_own, send_other, row_own, row_other, vote_own, vote_other}
+use Rattle.replica.proofs.Placing.{send_own, send_other, row_own, row_other, vote_own, vote_other}
 
 -- the tables are long enough
 pub record Long (n w : ℕ) (t : Store) : Type 0 where

@@ -7,7 +7,7 @@ use Rattle.theory.specs.Calls.{ranged}
 use Rattle.votes.specs.Votes.{unmarked, set_for}
 use Rattle.replica.specs.declared.state.Replica.{Replica}
 use Rattle.replica.specs.Store.{Store}
-use Rattle.replica.specs.View.{view, plan, box, bytes_same}
+use Rattle.replica.specs.View.{plan, box, bytes_same}
 use Rattle.replica.specs.Holding.{taken_of, settled, sets_same, vacant_of}
 
 decided_same : {A B : Type 0} (d : Dec A) (e : Dec B) → (A → B) → (B → A) → decided d ≡ decided e

@@ -1,5 +1,5 @@
 -- What is changed where a statement is held, and what is told where something is held already.
-use Rattle.std.specs.Prelude.{◌≡◌, ℕ, Bool, true, false, cond, List, length, set, Some, None, Ok, Option, Result, slice_index_or, slice_set}
+use Rattle.std.specs.Prelude.{◌≡◌, ℕ, Bool, true, false, cond, List, length, Some, None, Ok, Option, Result, slice_index_or, slice_set}
 use Rattle.std.proofs.Math.Bool.{Bool-discrete}
 use Rattle.common.specs.Limits.{rounds}
 use Rattle.common.specs.Refusals.{declined}

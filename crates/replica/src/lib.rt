@@ -2,6 +2,8 @@
 // types of both, `make` and `page`.
 // A call reads or writes no cell beyond those that the set needs. Letters and byte widths are not here, nor
 // is the theory of what replicas promise together.
+#![tactic(auto)]
+
 mod book;
 mod claim;
 mod claims;

@@ -1,6 +1,5 @@
 -- No statement stands on the board twice.
-use Rattle.std.proofs.Common.{◌≡◌, ℕ, zero, suc, ◌+◌, ◌-◌, ◌*◌, ◌/◌, ◌%◌, ◌<◌, ◌≤◌, Bool, true, false, eqb, ◌⊎◌, List, [], ◌∷◌, ◌++◌, map, length, get_or, Some, None, Option, sym, refl, ap, ◌∙◌, inl, inr, zero-add, arith, length-append}
-use Rattle.std.specs.List.{range_with_len}
+use Rattle.std.proofs.Common.{◌≡◌, ℕ, zero, suc, ◌+◌, ◌-◌, ◌*◌, ◌/◌, ◌%◌, ◌<◌, ◌≤◌, true, false, eqb, ◌⊎◌, List, [], ◌∷◌, ◌++◌, map, length, get_or, Some, None, Option, sym, refl, ap, ◌∙◌, inl, inr, zero-add, arith, length-append}
 use Rattle.std.proofs.lemmas.Nat.{div-add-mod', mod_below}
 use Rattle.std.proofs.lemmas.List.FromFn.{get_or-map-range_with_len}
 use Rattle.std.proofs.lemmas.List.{get_or_append_left, get_or-append_right, get_or_default}
@@ -11,7 +10,7 @@ use Rattle.common.specs.Limits.{epochs, rounds}
 use Rattle.replica.specs.declared.state.Replica.{Replica}
 use Rattle.replica.specs.Store.{Store}
 use Rattle.replica.specs.View.{view}
-use Rattle.showing.specs.Boards.{run, by_slot, by_kind, by_round, order, places, filled, board_of}
+use Rattle.showing.specs.Boards.{run, by_slot, by_round, order, places, filled, board_of}
 use Rattle.showing.proofs.Ordering.{length_run}
 use Rattle.showing.proofs.Standing.{stands}
 use Rattle.showing.proofs.Filling.{has_filled}

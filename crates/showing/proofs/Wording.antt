@@ -1,5 +1,5 @@
 -- A claim's entry, written and stated.
-use Rattle.std.proofs.Common.{◌≡◌, ℕ, List, ◌++◌, length, take, Some, None, Option, sym, refl, ap, ◌∙◌}
+use Rattle.std.proofs.Common.{◌≡◌, ℕ, List, ◌++◌, length, take, Some, Option, sym, ap, ◌∙◌}
 use Rattle.std.proofs.lemmas.List.{take_at}
 use Rattle.theory.specs.Statement.{entry_stated}
 use Rattle.wire.specs.Statements.{Message}

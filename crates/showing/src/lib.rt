@@ -1,5 +1,7 @@
 // The board of a replica, all that it holds from itself in a fixed order, and `show`, which writes it out
 // as statements. Nothing is changed here but the output.
+#![tactic(auto)]
+
 mod ballots;
 mod board;
 mod held;

@@ -15,7 +15,7 @@ use Rattle.theory.specs.Machine.{Holds, Board}
 use Rattle.theory.specs.Search.{or_else, first, bits, only_if, guard, unless, given, bind, map, entry}
 use Rattle.theory.specs.Turns.{backed}
 use Rattle.theory.specs.Promises.{box, book, Fair, Quiet}
-use Rattle.theory.specs.ByteScript.{among, four, by_turns, truth, lie, script, page, Met}
+use Rattle.theory.specs.ByteScript.{among, by_turns, truth, lie, script, page, Met}
 use Rattle.theory.proofs.Testing.{fair_test, fair_check, still, quiet_check}
 use Rattle.theory.proofs.Quieting.{promise}
 

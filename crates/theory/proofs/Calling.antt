@@ -8,7 +8,7 @@ use Rattle.theory.specs.Plan.{Rule, boxes, most}
 use Rattle.theory.specs.History.{Due}
 use Rattle.theory.specs.Machine.{Stage, unopened, awaiting, running, Box, Holds, Board, own, Small, says, hears, stays, enters, small, Steps}
 use Rattle.theory.specs.Search.{map}
-use Rattle.theory.specs.Turns.{decides, writes, sees, confirms, closes}
+use Rattle.theory.specs.Turns.{writes}
 use Rattle.theory.specs.Calls.{Turn, to_echo, to_ready, to_keep, to_follow, to_decide, to_write, to_second, to_see, to_confirm, to_close, number, in_round, stated, deciding, writing, finishing, closing, in_week, way, turn, accepts, opening, takes, Call, submit, opens, hear, turns, or_none, steps}
 use Rattle.theory.specs.Laws.{Ten, SlotLaw}
 use Rattle.theory.specs.Rules.{Heard, EchoRule, ReadyRule, KeepRule}

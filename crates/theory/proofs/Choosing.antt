@@ -6,7 +6,6 @@ use Rattle.theory.specs.Statement.{Stmt, echo, ready, have, value}
 use Rattle.theory.specs.Plan.{Plan}
 use Rattle.theory.specs.Machine.{Stage, unopened, awaiting, running, Box, Small, says, hears, stays, enters, leaves, small, Steps, does}
 use Rattle.theory.specs.Search.{map}
-use Rattle.theory.specs.Turns.{decides, writes, sees, confirms, closes}
 use Rattle.theory.specs.Calls.{Turn, to_echo, to_ready, to_keep, to_follow, to_decide, to_write, to_second, to_see, to_confirm, to_close, order, number, awaits, in_round, stated, in_week, way, turn, Call, steps, alone}
 use Rattle.theory.specs.Rules.{EchoRule, ReadyRule, KeepRule}
 use Rattle.theory.specs.Laws.{Filed, First, Law, SlotLaw, Ten, Week, Round, Applies, TurnLaw}

@@ -6,7 +6,7 @@ use Rattle.theory.specs.Statement.{Stmt, sends, echo, ready, have, value, seen, 
 use Rattle.theory.specs.Plan.{Plan}
 use Rattle.theory.specs.Machine.{Box, says, small, Steps, does}
 use Rattle.theory.specs.Search.{map}
-use Rattle.theory.specs.Calls.{Turn, to_echo, to_ready, to_keep, to_follow, to_decide, to_write, to_second, to_see, to_confirm, to_close, stated, deciding, closing, in_round, in_week, way, turn}
+use Rattle.theory.specs.Calls.{Turn, to_echo, to_ready, to_keep, to_follow, to_decide, to_write, to_second, to_see, to_confirm, to_close, stated, deciding, closing, in_round, in_week, way}
 use Rattle.theory.specs.Rules.{EchoRule, ReadyRule, KeepRule, CloseRule}
 use Rattle.theory.specs.Effects.{Gains, Leaves, Decides, Pages, Closes}
 use Rattle.theory.specs.Laws.{Filed, Ten, SlotLaw, SlotDone, RoundDone, Done, CallLaw, TurnLaws}

@@ -3,6 +3,8 @@
 // Here live not: bytes, frames, kinds of entry, tables, refusal numbers. A replica's contracts cite the
 // definitions of this crate at the view of its own tables.
 // The functions do nothing: each asks by its contract for theorems, and without their proofs the crate fails.
+#![tactic(auto)]
+
 ghost use Rattle.theory.specs.Count.{Counts};
 ghost use Rattle.theory.specs.History.{Agreement};
 ghost use Rattle.theory.specs.Book.{LedgerLaws};

@@ -1,14 +1,14 @@
 -- Each of the ten turns, and open, fits a whole replica.
-use Rattle.std.proofs.Common.{◌≡◌, ℕ, suc, ◌+◌, ◌%◌, ◌<◌, ◌≤◌, Bool, true, false, cond, not, ◌&&◌, eqb, ltb, List, [], ◌∷◌, get_or, Some, None, Option, sym, refl, ap, ◌∙◌, subst, inl, inr, arith}
+use Rattle.std.proofs.Common.{◌≡◌, ℕ, suc, ◌<◌, Bool, true, false, ◌&&◌, eqb, ltb, List, [], ◌∷◌, get_or, Some, None, Option, sym, refl, ap, ◌∙◌, subst, inl, inr, arith}
 use mathlib.Core.Bool.{false≢true}
 use Rattle.std.specs.Option.{option_map}
-use Rattle.std.proofs.lemmas.Bool.{ltb-true, lt-ltb, eq-eqb, and_from, and_parts, cond_both, cases_Bool}
+use Rattle.std.proofs.lemmas.Bool.{ltb-true, lt-ltb, eq-eqb, and_from, and_parts, cond_both}
 use Rattle.common.specs.Limits.{epochs, rounds}
 use Rattle.theory.specs.Statement.{Bits, only, both, Stmt, sends, echo, ready, have, value, seen, confirm, finish, Cell, at_send, at_echo, at_ready, at_have, at_value, at_seen, at_confirm, at_finish, cell}
 use Rattle.theory.specs.Plan.{Plan}
 use Rattle.theory.specs.Book.{Page}
-use Rattle.theory.specs.Machine.{Stage, unopened, awaiting, running, Box, Small, says, stays, enters, leaves, Steps}
-use Rattle.theory.specs.Search.{map, absent}
+use Rattle.theory.specs.Machine.{running, Box, says, enters, Steps}
+use Rattle.theory.specs.Search.{map}
 use Rattle.theory.specs.Turns.{set_of, same_bit, outcome, queue, writes, joined, closes}
 use Rattle.theory.specs.Calls.{ranged, Turn, to_echo, to_ready, to_keep, to_follow, to_decide, to_write, to_second, to_see, to_confirm, to_close, stated, in_round, deciding, writing, finishing, closing, in_week, way, turn, opening, or_none}
 use Rattle.theory.specs.Rules.{WriteRule}
@@ -29,7 +29,6 @@ use Rattle.replica.specs.Holding.{held_of}
 use Rattle.turns.specs.Stepping.{with_stage}
 use Rattle.turns.specs.Turning.{opened, turned}
 use Rattle.turns.specs.Ties.{Whole, Tied}
-use Rattle.turns.proofs.Keeping.{Next}
 use Rattle.turns.proofs.Tying.{Fit, Fits, tied, all_tied}
 
 -- a close finishes only where no finish is stated

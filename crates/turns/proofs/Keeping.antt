@@ -1,23 +1,20 @@
 -- Each small step on a whole replica is the theory's, and leaves a whole replica.
-use Rattle.std.proofs.Common.{◌≡◌, ℕ, zero, suc, ◌+◌, ◌*◌, ◌<◌, ◌≤◌, Bool, true, false, ◌&&◌, eqb, ltb, leb, ◌⊎◌, List, [], ◌∷◌, ◌++◌, length, get_or, take, set, Some, None, Option, sym, refl, ap, ◌∙◌, subst, inl, inr, add-one, arith, length-append, get_or-set_other, get_or-set_same}
+use Rattle.std.proofs.Common.{◌≡◌, ℕ, zero, suc, ◌+◌, ◌*◌, ◌<◌, ◌≤◌, Bool, ◌⊎◌, List, [], ◌∷◌, ◌++◌, length, get_or, take, set, Some, sym, refl, ap, ◌∙◌, subst, inl, inr, arith, length-append, get_or-set_other, get_or-set_same}
 use Rattle.std.proofs.lemmas.List.{length-set}
-use Rattle.std.proofs.lemmas.Bool.{cases_eq, leb-true, and_parts}
-use Rattle.common.specs.Limits.{most_replicas, epochs, rounds}
+use Rattle.std.proofs.lemmas.Bool.{cases_eq}
+use Rattle.common.specs.Limits.{epochs, rounds}
 use Rattle.theory.specs.Statement.{Stmt, sends, echo, ready, have, value, seen, confirm, finish}
 use Rattle.theory.specs.Book.{Page}
-use Rattle.theory.specs.Machine.{Stage, unopened, awaiting, running, Small, says, hears, stays, enters, leaves, small, Steps, does}
-use Rattle.theory.specs.Calls.{ranged}
-use Rattle.votes.specs.declared.ballot.Votes.{Votes}
 use Rattle.replica.specs.declared.state.Replica.{Replica}
 use Rattle.replica.specs.declared.state.Stage as declared
-use Rattle.replica.specs.declared.state.Stage.TheVariants.{Unopened, Open, Awaiting}
+use Rattle.replica.specs.declared.state.Stage.TheVariants.{Open}
 use Rattle.replica.specs.Store.{Store, fits}
-use Rattle.replica.specs.View.{leading, plan, book_of, box}
+use Rattle.replica.specs.View.{leading, book_of}
 use Rattle.replica.specs.Holding.{Sized, with_votes, held_of}
-use Rattle.replica.proofs.Putting.{lengths, Vacant, box_put, sized_held}
-use Rattle.turns.specs.Stepping.{stage_in, with_stage, left_of, with_page, filed_of, step_of, steps_of}
-use Rattle.turns.specs.Ties.{total, Whole, Tied}
-use Rattle.turns.proofs.Leaving.{view_left, lead_more, head_more}
+use Rattle.replica.proofs.Putting.{lengths, sized_held}
+use Rattle.turns.specs.Stepping.{with_stage, left_of, filed_of}
+use Rattle.turns.specs.Ties.{total, Whole}
+use Rattle.turns.proofs.Leaving.{lead_more}
 
 -- the sum of the heads, where one moves up
 total_out : (n : ℕ) (heads : List ℕ) (q v : ℕ) → n ≤ q → total n (set heads q v) ≡ total n heads

@@ -1,20 +1,18 @@
 -- An epoch is left: what is then in sight, and the book with its new page.
-use Rattle.std.proofs.Common.{◌≡◌, ℕ, zero, suc, ◌+◌, ◌*◌, ◌<◌, ◌≤◌, Bool, true, false, cond, ◌&&◌, eqb, ltb, ◌⊎◌, List, [], ◌∷◌, ◌++◌, length, get_or, take, set, replicate, Some, None, Option, sym, refl, ap, ◌∙◌, inl, inr, add-one, arith, get_or-set_other, get_or-set_same}
+use Rattle.std.proofs.Common.{◌≡◌, ℕ, zero, suc, ◌+◌, ◌<◌, Bool, true, cond, ◌&&◌, eqb, ltb, ◌⊎◌, List, [], ◌∷◌, ◌++◌, length, get_or, take, set, Some, None, Option, sym, refl, ap, ◌∙◌, inl, inr, add-one, arith, get_or-set_other, get_or-set_same}
 use Rattle.std.specs.List.{slice_get}
 use Rattle.std.specs.Option.{option_map}
 use Rattle.std.proofs.lemmas.Bool.{lt-ltb, le-ltb, eq-eqb, ne_eqb, cond-true, cond-false, cases_eq, cases_order}
-use Rattle.common.specs.Limits.{epochs, rounds}
-use Rattle.theory.specs.Statement.{Stmt, value, seen, confirm, finish, Cell, at_send, at_echo, at_ready, at_have, at_value, at_seen, at_confirm, at_finish}
-use Rattle.theory.specs.Book.{Page}
+use Rattle.common.specs.Limits.{epochs}
+use Rattle.theory.specs.Statement.{value, seen, confirm, finish, Cell, at_send, at_echo, at_ready, at_have, at_value, at_seen, at_confirm, at_finish}
 use Rattle.theory.specs.Machine.{drop}
 use Rattle.votes.specs.Votes.{unmarked, no_votes, bit_of, set_for}
 use Rattle.votes.proofs.Marking.{marks_none, bit_none, set_none}
 use Rattle.replica.specs.declared.state.Replica.{Replica}
 use Rattle.replica.specs.Store.{Store}
-use Rattle.replica.specs.View.{held, value_in, vote_cell, finish_cell, leading, view, book_of, box}
+use Rattle.replica.specs.View.{held, value_in, finish_cell, leading, view}
 use Rattle.replica.proofs.Freshness.{held_none, cond_none, vote_none}
-use Rattle.turns.specs.Stepping.{left_of, with_page, filed_of, step_of}
-use Rattle.turns.specs.Ties.{Whole}
+use Rattle.turns.specs.Stepping.{left_of}
 
 module _ (m : Replica) (t : Store) (before : m.epoch < epochs) (long : length m.past ≡ epochs) where
   -- the finish of epoch e that sender j has, after the epoch is left, and before

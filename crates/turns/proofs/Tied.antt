@@ -1,14 +1,14 @@
 -- Open and turn on whole replicas.
-use Rattle.std.proofs.Common.{◌≡◌, ℕ, ◌<◌, ◌≤◌, Bool, true, false, ◌⊎◌, List, Some, None, Ok, Option, sym, refl, ap, ◌∙◌, inl, inr, arith}
+use Rattle.std.proofs.Common.{◌≡◌, ℕ, ◌<◌, ◌≤◌, Bool, ◌⊎◌, List, Some, None, Ok, Option, refl, inl, inr}
 use Rattle.std.proofs.lemmas.Bool.{cases_lt, lt-leb, le-leb, le-ltb}
 use Rattle.common.specs.Limits.{epochs}
-use Rattle.theory.specs.Machine.{Stage, unopened, awaiting, running, Steps, does}
+use Rattle.theory.specs.Machine.{Stage, unopened, awaiting, running, Steps}
 use Rattle.theory.specs.Search.{map, guard}
-use Rattle.theory.specs.Calls.{Turn, turn, opening, opens, turns, steps}
+use Rattle.theory.specs.Calls.{Turn, turn, opening, opens, steps}
 use Rattle.replica.specs.declared.state.Replica.{Replica}
 use Rattle.replica.specs.Store.{Store}
 use Rattle.replica.specs.View.{plan, box}
-use Rattle.turns.specs.Turning.{open_of, turned, turn_of}
+use Rattle.turns.specs.Turning.{open_of, turned}
 use Rattle.turns.specs.Ties.{Whole, Tied, number_in, Ties}
 use Rattle.turns.proofs.Fitted.{turn_tied, open_tied}
 

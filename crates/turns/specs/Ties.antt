@@ -1,5 +1,5 @@
 -- Open and turn in the theory's words, on replicas as make and the calls leave them.
-use Rattle.std.specs.Prelude.{◌≡◌, ℕ, zero, suc, ◌+◌, ◌<◌, ◌≤◌, Bool, true, List, length, Some, None, Ok, Option, Result, slice_index}
+use Rattle.std.specs.Prelude.{◌≡◌, ℕ, zero, suc, ◌+◌, ◌<◌, ◌≤◌, Bool, true, List, length, Some, None, Ok, Option, slice_index}
 use Rattle.common.specs.Limits.{most_replicas, epochs, rounds}
 use Rattle.theory.specs.Machine.{Steps, does}
 use Rattle.theory.specs.Calls.{Turn, number, turn, opens, turns, steps}

@@ -1,5 +1,5 @@
 -- Open and turn: what they answer, and the replica and every cell after them.
-use Rattle.std.specs.Prelude.{ℕ, Bool, cond, not, List, [], ◌∷◌, Some, None, Ok, Option, Result, nat_le}
+use Rattle.std.specs.Prelude.{ℕ, Bool, cond, not, List, Some, None, Ok, Option, Result, nat_le}
 use Rattle.common.specs.Limits.{epochs}
 use Rattle.common.specs.Refusals.{declined}
 use Rattle.common.specs.declared.refusal.Refusal.TheVariants.{Table, Over, Begun}

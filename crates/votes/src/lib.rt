@@ -2,6 +2,8 @@
 // marked bit 1, as two masks of 16 bits. Every pair of masks has a meaning, so nothing is asked of them.
 // Here live: what a sender has marked, marking, and counts of senders by population count.
 // Here live not: epochs, which statements are accepted, the turns, and every refusal.
+#![tactic(auto)]
+
 mod ballot;
 mod ballots;
 mod counts;

@@ -6,7 +6,6 @@ use Rattle.wire.specs.Letters.{letter_of, length_of}
 use Rattle.wire.specs.Statements.{Message, send, echo, ready, have, value, seen, confirm, finish, bytes_of}
 use Rattle.wire.specs.declared.letter.Letter.{Letter}
 use Rattle.wire.specs.declared.letter.Letter.TheVariants.{Send, Echo, Ready, Have, Value, Seen, Confirm, Finish}
-use Rattle.wire.specs.declared.statement.Statement as declared
 
 -- what the bytes of a statement say
 abbrev pub read_of : Letter → List ℕ → Message

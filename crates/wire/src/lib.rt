@@ -2,6 +2,8 @@
 // each statement is read by `parse`, which leaves its entry a part of the frame, and written by `write`.
 // Whether a queue, a slot, a round, a bit or a set is in range, and whether the bytes of an entry are
 // one of the kind, is not asked here.
+#![tactic(auto)]
+
 mod frame;
 mod letter;
 mod letters;

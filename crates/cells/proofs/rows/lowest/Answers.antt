@@ -2,7 +2,7 @@ use Rattle.std.proofs.Common.{◌≡◌, map, length, sym, ap, ◌∙◌, arith}
 use Rattle.std.specs.Option.{option_map}
 use Rattle.std.proofs.lemmas.List.{length-map}
 use Rattle.theory.specs.Search.{first}
-use Rattle.cells.specs.Rows.{standing, lowest_in}
+use Rattle.cells.specs.Rows.{lowest_in}
 use Rattle.cells.proofs.Firsts.{first_start, first_on, first_hit}
 use Rattle.cells.proofs.Cellrows.{cell, backer, backer_none, backer_few, backer_enough}
 use Rattle.cells.proofs.rows.lowest.Goals as goal

@@ -1,4 +1,4 @@
-use Rattle.std.proofs.Common.{◌≡◌, vec_items, sym, ap, ◌∙◌, arith}
+use Rattle.std.proofs.Common.{◌≡◌, vec_items, sym, ap, ◌∙◌}
 use Rattle.replica.specs.Store.{store}
 use Rattle.day.specs.Days.{Run, cut_of, cut_at, end, torn, whole}
 use Rattle.day.proofs.Cutting.{lies, over, tears, passes}

@@ -1,8 +1,7 @@
-use Rattle.std.proofs.Common.{◌≡◌, Ok, sym, ap, ◌∙◌, rules}
+use Rattle.std.proofs.Common.{sym, rules}
 use Rattle.wire.specs.Statements.{message_of}
 use Rattle.replica.specs.Store.{store}
 use Rattle.replica.specs.Claims.{claim_of}
-use Rattle.intake.specs.Hearing.{admit_of}
 use Rattle.intake.proofs.Admitted.{admitted}
 use Rattle.intake.proofs.hears.judge.Goals as goal
 

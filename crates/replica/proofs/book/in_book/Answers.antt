@@ -1,7 +1,7 @@
-use Rattle.std.proofs.Common.{◌≡◌, true, false, ◌||◌, map, sym, ap, ◌∙◌, arith}
+use Rattle.std.proofs.Common.{true, false, map, sym, ◌∙◌, arith}
 use Rattle.std.specs.Option.{option_map}
 use Rattle.replica.specs.Store.{paged}
-use Rattle.replica.proofs.Leading.{left, booked_none, booked_some, booked_end}
+use Rattle.replica.proofs.Leading.{booked_none, booked_some, booked_end}
 use Rattle.replica.proofs.book.in_book.Goals as goal
 
 pub returns-in_default : goal.returns-in_default

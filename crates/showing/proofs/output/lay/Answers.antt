@@ -1,4 +1,4 @@
-use Rattle.std.proofs.Common.{◌≡◌, ℕ, ◌+◌, ◌<◌, List, [], ◌∷◌, map, length, get_or, drop, Some, None, Option, sym, ap, ◌∙◌, subst, arith}
+use Rattle.std.proofs.Common.{◌≡◌, ℕ, ◌+◌, ◌<◌, List, [], ◌∷◌, map, length, get_or, drop, Some, None, Option, sym, ap, subst, arith}
 use Rattle.std.proofs.lemmas.List.{drop_all}
 use Rattle.theory.specs.Statement.{Stmt}
 use Rattle.replica.specs.Claims.{claim_of}
@@ -8,7 +8,7 @@ use Rattle.showing.specs.Boards.{places, filled}
 use Rattle.showing.specs.Spoken.{spelled}
 use Rattle.showing.proofs.Skipping.{filled_next}
 use Rattle.showing.proofs.Standing.{store_wide, place_fits}
-use Rattle.showing.proofs.Laying.{Laid, laid_start, laid_more, laid_stop, laid_first, laid_end}
+use Rattle.showing.proofs.Laying.{Laid, laid_more, laid_stop, laid_first, laid_end}
 use Rattle.showing.proofs.output.lay.Goals as goal
 
 pub write-requires : goal.write-requires

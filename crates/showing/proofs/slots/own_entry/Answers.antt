@@ -1,4 +1,4 @@
-use Rattle.std.proofs.Common.{◌/◌, ◌%◌, ◌<◌, map, Some, None, arith, rules}
+use Rattle.std.proofs.Common.{◌/◌, ◌%◌, map, Some, arith}
 use Rattle.std.specs.Option.{option_map}
 use Rattle.theory.specs.Statement.{echo, ready, have}
 use Rattle.showing.proofs.Owning.{row_low, row_inside, row_own}

@@ -1,4 +1,4 @@
-use Rattle.std.proofs.Common.{◌≡◌, true, sym, ap, ◌∙◌}
+use Rattle.std.proofs.Common.{sym, ap, ◌∙◌}
 use Rattle.theory.specs.Calls.{ranged}
 use Rattle.theory.specs.Turns.{set_of}
 use Rattle.replica.specs.Store.{store}
