@@ -2,6 +2,8 @@
 // statement that it declined, then its board as a table, then the file of its book.
 // The arguments name the kind of entry, the number of boxes, the replica's own number and the slots of a queue.
 // All that is printed is made by `day::replay`, `listing::record` and `printing::print`.
+#![tactic(auto)]
+
 ghost use Rattle.std.specs.Prelude.{◌≡◌, replicate, IfOk, None};
 
 use common::Refusal;
