@@ -10,7 +10,7 @@ fn reading_record(rt: HostRuntime) -> Result<(), Fail> {
     )?;
     assert!(rt;
         text.as_slice()
-            == b"frame;13;2\nplace;letter;says;queue;slot;epoch;round;bit;set;house;week;quantity;amount\n0;S;send;;0;;;;;12;7;1;3400\n10;F;finish;;;7;;1;;;;;\n"
+            == b"frame;13;2\nplace;letter;says;queue;slot;epoch;round;bit;set;house;week;quantity;amount\n0;S;send;;0;;;;;12;7;1;3400\n10;F;finish;;;7;;1;;;;;\n".as_slice()
     );
     Ok(())
 }
@@ -23,7 +23,7 @@ fn order_record(rt: HostRuntime) -> Result<(), Fail> {
     )?;
     assert!(rt;
         text.as_slice()
-            == b"frame;15;1\nplace;letter;says;queue;slot;epoch;round;bit;set;kind;from;to;amount\n0;E;echo;2;1;;;;;2;40;0;0\nrefused;7;12\n"
+            == b"frame;15;1\nplace;letter;says;queue;slot;epoch;round;bit;set;kind;from;to;amount\n0;E;echo;2;1;;;;;2;40;0;0\nrefused;7;12\n".as_slice()
     );
     Ok(())
 }

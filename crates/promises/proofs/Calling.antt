@@ -1,5 +1,5 @@
 -- One call at a whole replica is one call of the theory's box.
-use Rattle.std.proofs.Common.{◌≡◌, ℕ, Bool, true, false, cond, not, ltb, leb, ◌⊎◌, List, [], ◌∷◌, Some, None, Ok, Err, Option, Result, sym, refl, ap, ◌∙◌, subst, inl, inr}
+use Rattle.std.proofs.Common.{◌≡◌, ℕ, Bool, true, false, cond, not, ltb, leb, ◌⊎◌, List, [], ◌∷◌, length, Some, None, Ok, Err, Option, Result, sym, refl, ap, ◌∙◌, subst, inl, inr}
 use Rattle.std.specs.List.{slice_get}
 use Rattle.std.proofs.lemmas.Bool.{ltb-true, eq-eqb, and_right, cases_Bool}
 use Rattle.common.specs.Limits.{epochs}
@@ -13,7 +13,7 @@ use Rattle.theory.specs.Calls as theory
 use Rattle.wire.specs.Codec.{parse_of}
 use Rattle.replica.specs.declared.state.Replica.{Replica}
 use Rattle.replica.specs.Store.{Store, fits}
-use Rattle.replica.specs.View.{plan, box}
+use Rattle.replica.specs.View.{plan, book_of, box}
 use Rattle.replica.specs.Holding.{held_of}
 use Rattle.intake.specs.Hearing.{judge_of, heard}
 use Rattle.intake.specs.Submitting.{offer_of}
@@ -38,7 +38,7 @@ step_set (says st) m t = held_set m t m.set.me st
 step_set (hears j st) m t = held_set m t j st
 step_set (stays g) m t = refl
 step_set (enters e v) m t = refl
-step_set (leaves l) m t = at (slice_get l.book m.pages)
+step_set (leaves l) m t = at (slice_get l.book (length (book_of m t)))
   where
     at : (o : Option (Page (List ℕ))) → (left_of (filed_of o m t).0).set ≡ m.set
     at None = refl

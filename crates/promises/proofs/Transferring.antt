@@ -1,7 +1,7 @@
 -- What the theory promises of its boxes, the replicas of a set promise.
 use Rattle.std.proofs.Common.{◌≡◌, ℕ, true, false, List, [], ◌∷◌, Some, None, Ok, Option, sym, refl, ap, ◌∙◌, subst, inl, inr}
 use mathlib.Core.Bool.{false≢true}
-use Rattle.std.specs.List.{ContainsAt as Has}
+use Rattle.std.specs.List.{ContainsAt}
 use Rattle.std.proofs.lemmas.Bool.{eq-eqb, and_parts, not-true, cond_both}
 use Rattle.theory.specs.Count as count
 use Rattle.theory.specs.Statement.{Stmt, sends}
@@ -43,10 +43,10 @@ module _ (S : Set) where
 
   -- what stands on a replica's board stands on the box's, and the other way
   module _ (c : List Asked) (l : Lending S c) (j : ℕ) (h : Honest S j) where
-    pub on_box : (x : Stmt (List ℕ)) → Has (board S c j) x → Board (theorem.box R (calls S.kind c) j) x
+    pub on_box : (x : Stmt (List ℕ)) → ContainsAt (board S c j) x → Board (theorem.box R (calls S.kind c) j) x
     on_box x e = subst (λ (B : Box (List ℕ)). Board B x) (follows S j h c l).box (board_only (state S c j).0 (state S c j).1 x e)
 
-    pub on_board : (x : Stmt (List ℕ)) → Board (theorem.box R (calls S.kind c) j) x → Has (board S c j) x
+    pub on_board : (x : Stmt (List ℕ)) → Board (theorem.box R (calls S.kind c) j) x → ContainsAt (board S c j) x
     on_board x e = board_all (state S c j).0 (state S c j).1 x (subst (λ (B : Box (List ℕ)). Board B x) (sym (follows S j h c l).box) e)
 
   shown_box : (c : List Asked) → Lending S c → (j : ℕ) → Honest S j → (x : Stmt (List ℕ)) → Shown S c j x → theorem.Shown R (calls S.kind c) j x

@@ -1,6 +1,6 @@
 -- A list of calls by bytes for four replicas, one of them faulty and heard to say something false, that meets every premise.
 use Rattle.std.specs.Prelude.{◌≡◌, ℕ, true, List, [], ◌∷◌, ◌++◌, None}
-use Rattle.std.specs.List.{ContainsAt as Has}
+use Rattle.std.specs.List.{ContainsAt}
 use Rattle.theory.specs.Statement.{only, Stmt, sends, echo, ready, have, value, seen, confirm, finish}
 use Rattle.theory.specs.Machine.{Holds}
 use Rattle.theory.specs.ByteScript.{by_turns, truth, lie, page}
@@ -63,6 +63,6 @@ pub record Met : Type 0 where
   pub faulty : Honest set 3 → ⊥
   pub fair : Fair set script
   pub believed : Holds (box (state set script 1).0 (state set script 1).1) 3 (echo 0 0 lie) × Holds (box (state set script 2).0 (state set script 2).1) 3 (ready 0 0 lie)
-  pub shown : Has (board set script 0) (sends 0 truth)
+  pub shown : ContainsAt (board set script 0) (sends 0 truth)
   pub written : (i : ℕ) → Honest set i → book set script i ≡ page ∷ []
   pub quiet : Quiet set script

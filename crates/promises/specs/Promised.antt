@@ -1,6 +1,6 @@
 -- What honest replicas promise together, after every list of calls.
 use Rattle.std.specs.Prelude.{◌≡◌, ℕ, ◌<◌, ◌≤◌, Bool, true, false, not, ◌⊎◌, List, [], ◌∷◌, ◌++◌, Some, None, Ok, Option, ◌≢◌}
-use Rattle.std.specs.List.{ContainsAt as Has}
+use Rattle.std.specs.List.{ContainsAt}
 use Rattle.common.specs.Quorums.{faults}
 use Rattle.theory.specs.Count.{count}
 use Rattle.theory.specs.Statement.{Stmt}
@@ -55,8 +55,8 @@ module _ (S : Set) where
 
   -- the statement stood on replica j's board at the start or the end of a call
   abbrev pub Shown : List Asked → ℕ → Stmt (List ℕ) → Type 0
-  Shown [] j x = Has (board [] j) x
-  Shown (a ∷ c) j x = Shown c j x ⊎ Has (board (a ∷ c) j) x
+  Shown [] j x = ContainsAt (board [] j) x
+  Shown (a ∷ c) j x = Shown c j x ⊎ ContainsAt (board (a ∷ c) j) x
 
   -- what bytes from an honest sender say, the sender has shown, if hear accepts them
   abbrev pub Authentic : List Asked → ℕ → Call → Type 0
@@ -105,7 +105,7 @@ module _ (S : Set) where
 module _ (S : Set) (c : List Asked) where
   -- no honest replica would accept what stands on another's board, and none has a turn left
   pub record Quiet : Type 0 where
-    pub heard : (i j : ℕ) → Honest S i → Honest S j → (i ≢ j) → (x : Stmt (List ℕ)) → Has (board S c j) x → (hear_of S.kind.width S.kind.valid (state S c i).0 (state S c i).1 j (spelled x)).0 ≢ Ok tt
+    pub heard : (i j : ℕ) → Honest S i → Honest S j → (i ≢ j) → (x : Stmt (List ℕ)) → ContainsAt (board S c j) x → (hear_of S.kind.width S.kind.valid (state S c i).0 (state S c i).1 j (spelled x)).0 ≢ Ok tt
     pub rest : (i : ℕ) → Honest S i → (k : ℕ) → (turn_of S.coin (state S c i).0 (state S c i).1).0 ≡ Ok k → k ≡ 0
 
   pub record Promises : Type 0 where

@@ -1,6 +1,6 @@
 -- The board is just what the replica holds from itself.
 use Rattle.std.proofs.Common.{◌≡◌, ℕ, zero, suc, ◌<◌, List, [], ◌∷◌, map, length, get_or, Some, None, Option, sym, ap, ◌∙◌, arith}
-use Rattle.std.specs.List.{ContainsAt as Has}
+use Rattle.std.specs.List.{ContainsAt}
 use Rattle.std.proofs.ByRecursion.{has_append_right}
 use Rattle.std.proofs.lemmas.List.{get_or-map}
 use Rattle.theory.specs.Statement.{Stmt, Cell, cell}
@@ -13,7 +13,7 @@ use Rattle.showing.specs.Boards.{order, places, filled, board_of}
 use Rattle.showing.specs.Spoken.{spoken}
 use Rattle.showing.proofs.Standing.{Wide, stands, broad, placed_in}
 
-pub filled_has : {A : Type 0} (os : List (Option A)) (i : ℕ) (x : A) → Some x ≡ get_or os i None → Has (filled os) x
+pub filled_has : {A : Type 0} (os : List (Option A)) (i : ℕ) (x : A) → Some x ≡ get_or os i None → ContainsAt (filled os) x
 filled_has [] i x e = absurd (let z : ◌≡◌ {A = ℕ} 0 1 = cc in omega arith)
 filled_has (None ∷ os) zero x e = absurd (let z : ◌≡◌ {A = ℕ} 0 1 = cc in omega arith)
 filled_has (None ∷ os) (suc i) x e = filled_has os i x e
@@ -30,14 +30,14 @@ module _ (m : Replica) (t : Store) (s : Stmt (List ℕ)) where
   abbrev here : Cell → Option (Stmt (List ℕ))
   here = view m t m.set.me
 
-  pub board_all : Board (box m t) s → Has (board_of m t) s
+  pub board_all : Board (box m t) s → ContainsAt (board_of m t) s
   unfolding places
   board_all e =
       let h = (stands m s m.set.me t (cell s) e).listed in
       let at = get_or-map here (order m) h.0 (cell s) None h.1 ∙ ap here (h.2 (cell s)) ∙ e in
       filled_has (map here (order m)) h.0 s (sym at)
 
-  pub board_only : Has (board_of m t) s → Board (box m t) s
+  pub board_only : ContainsAt (board_of m t) s → Board (box m t) s
   unfolding places
   board_only h =
       let r = has_filled (map here (order m)) h.0 s h.1 h.2 in
@@ -45,5 +45,5 @@ module _ (m : Replica) (t : Store) (s : Stmt (List ℕ)) where
       ap here (stands m s m.set.me t p.0 p.1).own ∙ p.1
 
   -- each statement of the board can be written
-  pub board_fits : (w : ℕ) → Wide w t → Has (board_of m t) s → unfit w (spoken s) ≡ None
+  pub board_fits : (w : ℕ) → Wide w t → ContainsAt (board_of m t) s → unfit w (spoken s) ≡ None
   board_fits w wide h = (stands m s m.set.me t (cell s) (board_only h)).fits w (broad w m t wide s m.set.me (cell s) (board_only h))

@@ -1,7 +1,7 @@
 -- What the board and show promise.
 use Rattle.std.proofs.Common.{◌≡◌, ℕ, zero, suc, ◌+◌, ◌-◌, ◌<◌, ◌≤◌, true, ◌⊎◌, List, [], ◌∷◌, ◌++◌, map, length, take, drop, replicate, Ok, sym, refl, ap, ◌∙◌, inl, inr, append_assoc, arith, take_all, drop-drop, take-add}
 use mathlib.Core.List.{map-append}
-use Rattle.std.specs.List.{ContainsAt as Has, AllByRecursion as All}
+use Rattle.std.specs.List.{ContainsAt, AllByRecursion}
 use Rattle.std.proofs.ByRecursion.{All-weaker, all_has_itself, All-take, All-drop}
 use Rattle.std.proofs.lemmas.Bool.{cases_lt}
 use Rattle.theory.specs.Statement.{Stmt}
@@ -33,19 +33,19 @@ parts_joined m t i j k a b =
     let both : take (k - i) from ≡ take (j - i) from ++ take (k - j) (drop j board) = ap (λ n. take n from) sum ∙ take-add (j - i) (k - j) from ∙ ap (λ l. take (j - i) from ++ take (k - j) l) (sym past) in
     sym (ap (λ l. joined (map spelled l)) both ∙ ap joined (map-append spelled (take (j - i) from) (take (k - j) (drop j board))) ∙ joined_append (parts m t i j) (parts m t j k))
 
-statements : (w : ℕ) (ss : List (Stmt (List ℕ))) → All (λ s. parse_of w (spelled s) ≡ Ok (spoken s)) ss → Statements w (map spelled ss)
+statements : (w : ℕ) (ss : List (Stmt (List ℕ))) → AllByRecursion (λ s. parse_of w (spelled s) ≡ Ok (spoken s)) ss → Statements w (map spelled ss)
 statements w [] ok = tt
 statements w (s ∷ ss) ok = ((spoken s, ok.0), statements w ss ok.1)
 
 module _ (w : ℕ) (m : Replica) (t : Store) (wide : Wide w t) where
-  read : (s : Stmt (List ℕ)) → Has (board_of m t) s → parse_of w (spelled s) ≡ Ok (spoken s)
+  read : (s : Stmt (List ℕ)) → ContainsAt (board_of m t) s → parse_of w (spelled s) ≡ Ok (spoken s)
   read s h = written_read w (spoken s) (board_fits m t s w wide h)
 
   -- each part is one whole statement
   readable : (i j : ℕ) → Statements w (parts m t i j)
   readable i j =
       let P : Stmt (List ℕ) → Type 0 = λ s. parse_of w (spelled s) ≡ Ok (spoken s) in
-      let each = All-weaker (Has (board_of m t)) P read (board_of m t) (all_has_itself (board_of m t)) in
+      let each = All-weaker (ContainsAt (board_of m t)) P read (board_of m t) (all_has_itself (board_of m t)) in
       statements w (take (j - i) (drop i (board_of m t))) (All-take P (j - i) (drop i (board_of m t)) (All-drop P i (board_of m t) each))
 
   step : (number : ℕ) (out : List ℕ) (k next : ℕ) (after : List ℕ) → show_of m t number out ≡ (Ok (k, next), after) → Step w m t number out k next after

@@ -1,6 +1,6 @@
 -- What stands in a cell belongs there, can be written, and the cell has a place on the board.
 use Rattle.std.proofs.Common.{◌≡◌, ℕ, zero, suc, ◌+◌, ◌*◌, ◌<◌, Bool, true, false, ◌&&◌, eqb, ltb, List, [], ◌∷◌, ◌++◌, map, length, get_or, Some, None, Option, sym, refl, ap, ◌∙◌, subst, zero-add, arith}
-use Rattle.std.specs.List.{range_with_len, ContainsAt as Has}
+use Rattle.std.specs.List.{range_with_len, ContainsAt}
 use Rattle.std.specs.Option.{option_map}
 use Rattle.std.proofs.lemmas.Nat.{mul-add-lt, div-mul-add, mod-mul-add}
 use Rattle.std.proofs.lemmas.List.FromFn.{length-map-range_with_len, get_or-map-range_with_len}
@@ -59,10 +59,10 @@ held_same : {A : Type 0} (b : Bool) (x y : A) → held b (Some y) ≡ Some x →
 held_same true x y e = cc
 held_same false x y e = absurd (let z : ◌≡◌ {A = ℕ} 0 1 = cc in omega arith)
 
-pub run_has : (k : ℕ) (f : ℕ → Cell) (i : ℕ) (c : Cell) → i < k → f i ≡ c → Has (run k f) c
+pub run_has : (k : ℕ) (f : ℕ → Cell) (i : ℕ) (c : Cell) → i < k → f i ≡ c → ContainsAt (run k f) c
 unfolding run
 run_has k f i c h e =
-    subst (Has (map f (range_with_len 0 k))) (get_or-map-range_with_len f 0 k i i c h (zero-add i) ∙ e)
+    subst (ContainsAt (map f (range_with_len 0 k))) (get_or-map-range_with_len f 0 k i i c h (zero-add i) ∙ e)
     (has_get_or (map f (range_with_len 0 k)) i c (omega (arith, length-map-range_with_len f 0 k)))
 
 entry_fits : (w : ℕ) (x : List ℕ) → length x ≡ w → misfit w x ≡ None
@@ -85,7 +85,7 @@ Broad w s = (x : List ℕ) → entry_stated s ≡ Some x → length x ≡ w
 pub record Stands (m : Replica) (c : Cell) (s : Stmt (List ℕ)) : Type 0 where
   pub own : cell s ≡ c
   pub fits : (w : ℕ) → Broad w s → unfit w (spoken s) ≡ None
-  pub listed : Has (order m) c
+  pub listed : ContainsAt (order m) c
 
 module _ (m : Replica) (c : Cell) where
   abbrev rows : (ℕ → ℕ → Cell) → List Cell
@@ -103,29 +103,29 @@ module _ (m : Replica) (c : Cell) where
   abbrev readies : List Cell
   readies = rows at_ready ++ haves
 
-  in_sends : Has (run m.set.w at_send) c → Has (order m) c
+  in_sends : ContainsAt (run m.set.w at_send) c → ContainsAt (order m) c
   in_sends h = has_append_left (run m.set.w at_send) (rows at_echo ++ readies) c h
 
-  past_sends : Has (rows at_echo ++ readies) c → Has (order m) c
+  past_sends : ContainsAt (rows at_echo ++ readies) c → ContainsAt (order m) c
   past_sends h = has_append_right (run m.set.w at_send) (rows at_echo ++ readies) c h
 
-  past_echoes : Has readies c → Has (order m) c
+  past_echoes : ContainsAt readies c → ContainsAt (order m) c
   past_echoes h = past_sends (has_append_right (rows at_echo) readies c h)
 
-  past_readies : Has haves c → Has (order m) c
+  past_readies : ContainsAt haves c → ContainsAt (order m) c
   past_readies h = past_echoes (has_append_right (rows at_ready) haves c h)
 
-  past_haves : Has ends c → Has (order m) c
+  past_haves : ContainsAt ends c → ContainsAt (order m) c
   past_haves h = past_readies (has_append_right (rows at_have) ends c h)
 
-  in_votes : Has votes c → Has (order m) c
+  in_votes : ContainsAt votes c → ContainsAt (order m) c
   in_votes h = past_haves (has_append_right (run epochs at_finish) votes c h)
 
 module _ (m : Replica) (r : Stmt (List ℕ)) (j : ℕ) where
   row_stands :
       (f : ℕ → ℕ → Cell) (st : ℕ → ℕ → List ℕ → Stmt (List ℕ)) (cells : Cells) (q s : ℕ)
       → ((x : List ℕ) → cell (st q s x) ≡ f q s) → ((x : List ℕ) → entry_stated (st q s x) ≡ Some x) → ((w : ℕ) (x : List ℕ) → unfit w (spoken (st q s x)) ≡ misfit w x)
-      → (Has (rows m (f q s) f) (f q s) → Has (order m) (f q s))
+      → (ContainsAt (rows m (f q s) f) (f q s) → ContainsAt (order m) (f q s))
       → row_cell m.set.n m.set.w cells (st q s) q s j ≡ Some r → Stands m (f q s) r
   row_stands f st cells q s cell_of entry_of unfitOf lift e =
       let n = m.set.n in

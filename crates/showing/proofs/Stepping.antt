@@ -1,6 +1,6 @@
 -- What a call writes are the statements from its number up to the next.
 use Rattle.std.proofs.Common.{◌≡◌, ℕ, ◌+◌, ◌-◌, ◌≤◌, Bool, true, false, ltb, List, [], ◌∷◌, ◌++◌, length, take, drop, Ok, Err, Result, sym, refl, ap, ◌∙◌, subst, arith, length-append, length-drop}
-use Rattle.std.specs.List.{AllByRecursion as All}
+use Rattle.std.specs.List.{AllByRecursion}
 use Rattle.std.proofs.ByRecursion.{All-map, All-drop}
 use Rattle.std.proofs.lemmas.List.{length-map, take-map, take_at, drop_at}
 use Rattle.std.proofs.lemmas.Bool.{cond_both, ltb-false, le-ltb}
@@ -98,7 +98,7 @@ module _ (m : Replica) (t : Store) (number : ℕ) (out : List ℕ) where
       }
 
   -- with room for each there is an answer
-  lay_answers : (ss : List (List ℕ)) → All (λ s. length s ≤ length out) ss → (k : ℕ) × (next : ℕ) × (after : List ℕ) × (lay_of number ss out ≡ (Ok (k, next), after))
+  lay_answers : (ss : List (List ℕ)) → AllByRecursion (λ s. length s ≤ length out) ss → (k : ℕ) × (next : ℕ) × (after : List ℕ) × (lay_of number ss out ≡ (Ok (k, next), after))
   lay_answers [] fit = (0, number, out, refl)
   lay_answers (s ∷ ss) fit =
       let ts = s ∷ fitting (length out - length s) ss in

@@ -1,6 +1,6 @@
 -- What the board and show promise.
 use Rattle.std.specs.Prelude.{◌≡◌, ℕ, ◌<◌, ◌≤◌, true, List, [], ◌∷◌, ◌++◌, map, length, take, drop, replicate, None, Ok, slice_index_or, slice_range}
-use Rattle.std.specs.List.{ContainsAt as Has, AllByRecursion as All}
+use Rattle.std.specs.List.{ContainsAt, AllByRecursion}
 use Rattle.theory.specs.Statement.{Stmt}
 use Rattle.theory.specs.Machine.{Board}
 use Rattle.wire.specs.Codec.{parse_of}
@@ -18,7 +18,7 @@ parts m t number next = map spelled (slice_range (board_of m t) number next)
 
 -- the output has room for each statement by itself
 abbrev pub Roomy : Replica → Store → List ℕ → Type 0
-Roomy m t out = All (λ s. length (spelled s) ≤ length out) (board_of m t)
+Roomy m t out = AllByRecursion (λ s. length (spelled s) ≤ length out) (board_of m t)
 
 -- a call of show that answers k bytes and the next number, and leaves the output as after: it gets on unless
 -- it is at the end, it has written just the statements in between, whole, and a walk over them with next finds
@@ -48,12 +48,12 @@ Answers m t number out = (k : ℕ) × (next : ℕ) × (after : List ℕ) × (sho
 -- The board is just what the replica holds from itself, each statement once, and from its bytes each is read
 -- back as it was.
 pub record Boarded (w : ℕ) (m : Replica) (t : Store) : Type 0 where
-  pub all : (s : Stmt (List ℕ)) → Board (box m t) s → Has (board_of m t) s
-  pub only : (s : Stmt (List ℕ)) → Has (board_of m t) s → Board (box m t) s
+  pub all : (s : Stmt (List ℕ)) → Board (box m t) s → ContainsAt (board_of m t) s
+  pub only : (s : Stmt (List ℕ)) → ContainsAt (board_of m t) s → Board (box m t) s
   pub once :
       (i j : ℕ) (d : Stmt (List ℕ)) → i < length (board_of m t) → j < length (board_of m t)
       → slice_index_or (board_of m t) i d ≡ slice_index_or (board_of m t) j d → i ≡ j
-  pub read : (s : Stmt (List ℕ)) → Has (board_of m t) s → parse_of w (spelled s) ≡ Ok (spoken s)
+  pub read : (s : Stmt (List ℕ)) → ContainsAt (board_of m t) s → parse_of w (spelled s) ≡ Ok (spoken s)
 
 -- A call that answers is a step. Where the tables are long enough, each call answers that has room for every
 -- statement, and such calls come to the end. Calls from the first number to the end write the whole board.

@@ -326,10 +326,10 @@ fn order_of_votes<K: Entry>(
 }
 
 fn accepted<K: Entry>(world: &mut World<K>, n: u8, w: u8, items: Items<'_>) -> Result<(), Fail> {
-    entries(world, n, w, items).note("entries")?;
-    edges(world, n, w, items).note("edges")?;
-    stages(world, n, w, items).note("stages")?;
-    week_over(world, n, w, items).note("week over")
+    entries(world, n, w, items)?;
+    edges(world, n, w, items)?;
+    stages(world, n, w, items)?;
+    week_over(world, n, w, items)
 }
 
 fn declined<K: Entry>(
@@ -339,10 +339,10 @@ fn declined<K: Entry>(
     w: u8,
     items: Items<'_>,
 ) -> Result<(), Fail> {
-    cut(rt, world, n, w, items).note("cut")?;
-    bytes(world, n, w, items).note("bytes")?;
-    short(world, n, w, needed(n, w), items).note("short")?;
-    short(world, n, w, ALL, items).note("short of longer")
+    cut(rt, world, n, w, items)?;
+    bytes(world, n, w, items)?;
+    short(world, n, w, needed(n, w), items)?;
+    short(world, n, w, ALL, items)
 }
 
 fn ordered<K: Entry>(
@@ -352,10 +352,10 @@ fn ordered<K: Entry>(
     w: u8,
     items: Items<'_>,
 ) -> Result<(), Fail> {
-    order(world, n, w, items).note("order")?;
-    order_of_lengths(rt, world, n, w, items).note("order of lengths")?;
-    order_of_entries(world, n, w, items).note("order of entries")?;
-    order_of_votes(world, n, w, items).note("order of votes")
+    order(world, n, w, items)?;
+    order_of_lengths(rt, world, n, w, items)?;
+    order_of_entries(world, n, w, items)?;
+    order_of_votes(world, n, w, items)
 }
 
 fn all<K: Entry>(rt: &impl Abort, world: &mut World<K>, items: Items<'_>) -> Result<(), Fail> {

@@ -169,12 +169,12 @@ fn each<K: Entry>(
     w: u8,
     items: Items<'_>,
 ) -> Result<(), Fail> {
-    stages(rt, world, n, w, items).note("stages")?;
-    gaps(world, n, items).note("gaps")?;
-    booked(rt, world, n, w, items).note("booked")?;
-    last(world, n, w, items).note("last")?;
-    short(world, n, w, needed(n, w), items).note("short")?;
-    short(world, n, w, ALL, items).note("short of longer")
+    stages(rt, world, n, w, items)?;
+    gaps(world, n, items)?;
+    booked(rt, world, n, w, items)?;
+    last(world, n, w, items)?;
+    short(world, n, w, needed(n, w), items)?;
+    short(world, n, w, ALL, items)
 }
 
 fn all<K: Entry>(rt: &impl Abort, world: &mut World<K>, items: Items<'_>) -> Result<(), Fail> {

@@ -132,7 +132,9 @@ impl<K: Entry> Cells<K> {
 
     // Writes a page at a place.
     pub fn write(&mut self, place: usize, epoch: u16, item: K) -> Result<(), Fail> {
-        assert!(place < 257);
+        if place >= 257 {
+            return Err(Fail::new("out of range"));
+        }
         self.pages[place] = Some(Page {
             epoch,
             queue: 1,
@@ -341,9 +343,12 @@ impl<K: Entry> World<K> {
         self.replica = replica;
         let n = replica.set.n;
         let w = replica.set.w;
-        assert_eq!(got, number, "{n}, {w}: {s:?} from {sender:?}");
         let same = alike(&self.replica, &self.want) && self.cells.alike(&self.wanted);
-        assert!(same, "{n}, {w}: {s:?} from {sender:?}");
+        if got != number || !same {
+            return Err(Fail::new(format_args!(
+                "{n}, {w}: {s:?} from {sender:?}: {got} and not {number}, or not as wanted"
+            )));
+        }
         Ok(())
     }
 
@@ -355,7 +360,9 @@ impl<K: Entry> World<K> {
     // Hears a statement: declined with a number, or with 0 accepted, which fills its cell and no other.
     pub fn says(&mut self, sender: u8, head: [u8; 4], item: &[u8], number: u8) -> Result<(), Fail> {
         let (bytes, len) = line(head, item)?;
-        assert!(len <= 16);
+        if len > 16 {
+            return Err(Fail::new("out of range"));
+        }
         if number == 0 {
             self.put(sender, head, item)?;
         }
@@ -408,7 +415,9 @@ impl<K: Entry> World<K> {
 }
 
 fn fill<K: Entry>(cells: &mut [Option<K>], at: usize, item: &[u8]) -> Result<(), Fail> {
-    assert!(at < cells.len());
+    if at >= cells.len() {
+        return Err(Fail::new("out of range"));
+    }
     cells[at] = Some(read::<K>(item)?);
     Ok(())
 }
@@ -420,12 +429,16 @@ fn mark(
     zero: bool,
     one: bool,
 ) -> Result<(), Fail> {
-    assert!(round < 16);
+    if round >= 16 {
+        return Err(Fail::new("out of range"));
+    }
     mark_one(&mut rounds[round as usize], sender, zero, one)
 }
 
 fn mark_one(marks: &mut Marks, sender: u8, zero: bool, one: bool) -> Result<(), Fail> {
-    assert!(sender < 16);
+    if sender >= 16 {
+        return Err(Fail::new("out of range"));
+    }
     let bit = 1u16 << sender;
     if zero {
         marks.zero |= bit;
@@ -452,7 +465,9 @@ pub fn line(head: [u8; 4], item: &[u8]) -> Result<([u8; 16], usize), Fail> {
     }
     if entry {
         for b in item {
-            assert!(len < 16);
+            if len >= 16 {
+                return Err(Fail::new("out of range"));
+            }
             bytes[len] = *b;
             len += 1;
         }

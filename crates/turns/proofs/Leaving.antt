@@ -69,9 +69,12 @@ head_more heads q s k l = at (cases_eq k q)
     at (inl e) = rw (eq-eqb k q e, e) (get_or-set_same heads q (s + 1) 0 l ∙ add-one s)
     at (inr n) = rw (ne_eqb k q n) (get_or-set_other heads q k (s + 1) 0 n)
 
+-- a page becomes the last one of a ledger, and the head of its queue is its slot plus 1
+abbrev pub filed : Option (Page (List ℕ)) → Ledger (List ℕ) → Ledger (List ℕ)
+filed None l = l
+filed (Some p) l = record { book = l.book ++ (p ∷ []); heads = λ k. cond (eqb k p.queue) (suc p.slot) (l.heads k) }
+
 -- the place behind a list has what is put there
-pub next_some : {A : Type 0} (xs : List A) (n : ℕ) (x : A) → length xs ≡ n → slice_get (xs ++ (x ∷ [])) n ≡ Some x
-next_some [] zero x e = refl
-next_some [] (suc n) x e = absurd (omega arith)
-next_some (y ∷ xs) zero x e = absurd (omega arith)
-next_some (y ∷ xs) (suc n) x e = next_some xs n x (omega (arith, e))
+pub next_some : {A : Type 0} (xs : List A) (x : A) → slice_get (xs ++ (x ∷ [])) (length xs) ≡ Some x
+next_some [] x = refl
+next_some (y ∷ xs) x = next_some xs x

@@ -1,5 +1,5 @@
 -- Steps of the theory's box that fit a whole replica are done to it, one after the other.
-use Rattle.std.proofs.Common.{◌≡◌, ℕ, ◌<◌, Bool, true, false, ◌⊎◌, List, [], ◌∷◌, Some, Option, sym, refl, ap, ◌∙◌, subst, ⊎_elim, add-one, arith}
+use Rattle.std.proofs.Common.{◌≡◌, ℕ, ◌<◌, Bool, true, false, ◌⊎◌, List, [], ◌∷◌, length, Some, Option, sym, refl, ap, ◌∙◌, subst, ⊎_elim, add-one, arith}
 use Rattle.std.specs.List.{slice_get}
 use Rattle.std.proofs.lemmas.Option.{slice_get_past}
 use Rattle.std.proofs.lemmas.Bool.{lt-ltb, eq-eqb, and_from}
@@ -16,7 +16,7 @@ use Rattle.replica.specs.View.{stage_of, view, plan, book_of, box}
 use Rattle.replica.proofs.Putting.{Vacant, box_put}
 use Rattle.turns.specs.Stepping.{stage_in, with_stage, left_of, filed, filed_of, step_of, steps_of}
 use Rattle.turns.specs.Ties.{Whole, Tied}
-use Rattle.turns.proofs.Leaving.{view_left, head_more, next_some}
+use Rattle.turns.proofs.Leaving.{view_left, head_more, filed, next_some}
 use Rattle.turns.proofs.Keeping.{held_whole, stage_whole, left_whole, Next, in_heads, book_more, page_whole}
 
 stage_back : (g : Stage) → stage_of (stage_in g) ≡ g
@@ -86,13 +86,13 @@ module _ (m : Replica) (t : Store) where
     abbrev Goes : Ledger (List ℕ) → Option (Page (List ℕ)) → Type 0
     Goes l o = Tied m t (leaves l ∷ []) (left_of (filed_of o m t).0) (filed_of o m t).1
 
-    gone : (l : Ledger (List ℕ)) → Fit (leaves l) → Goes l (slice_get l.book m.pages)
+    gone : (l : Ledger (List ℕ)) → Fit (leaves l) → Goes l (slice_get l.book (length (book_of m t)))
     gone l f = ⊎_elim
-        (λ (e : l ≡ (box m t).ledger). subst (λ k. Goes k (slice_get k.book m.pages)) (sym e)
-        (subst (Goes (box m t).ledger) (sym (slice_get_past (book_of m t) m.pages (omega (arith, W.filled)))) (left_whole m t W f.0, box_left f.0)))
+        (λ (e : l ≡ (box m t).ledger). subst (λ k. Goes k (slice_get k.book (length (book_of m t)))) (sym e)
+        (subst (Goes (box m t).ledger) (sym (slice_get_past (book_of m t) (length (book_of m t)) (omega arith))) (left_whole m t W f.0, box_left f.0)))
         (λ (n : (p : Page (List ℕ)) × Next m t p × (l ≡ filed (Some p) (box m t).ledger)). let p = n.0 in let x = n.1 in
-        subst (λ k. Goes k (slice_get k.book m.pages)) (sym n.2)
-        (subst (Goes (filed (Some p) (box m t).ledger)) (sym (next_some (book_of m t) m.pages p W.filled)) (left_whole _ _ (page_whole m t W p x) f.0, box_page p x f.0)))
+        subst (λ k. Goes k (slice_get k.book (length (book_of m t)))) (sym n.2)
+        (subst (Goes (filed (Some p) (box m t).ledger)) (sym (next_some (book_of m t) p)) (left_whole _ _ (page_whole m t W p x) f.0, box_page p x f.0)))
         f.1
 
     pub tied : (s : Small (List ℕ)) → Fit s → Tied m t (s ∷ []) (step_of s m t).0 (step_of s m t).1

@@ -1,14 +1,15 @@
 -- The theory's small steps on a replica and its tables, cell by cell.
-use Rattle.std.specs.Prelude.{ℕ, suc, ◌+◌, false, cond, List, [], ◌∷◌, ◌++◌, set, Some, None, Option, ◌==◌}
+use Rattle.std.specs.Prelude.{ℕ, ◌+◌, false, List, [], ◌∷◌, length, set, Some, None, Option}
 use Rattle.std.specs.List.{slice_get}
 use Rattle.theory.specs.Statement.{value}
-use Rattle.theory.specs.Book.{Page, Ledger}
+use Rattle.theory.specs.Book.{Page}
 use Rattle.theory.specs.Machine.{Stage, unopened, awaiting, running, Small, says, hears, stays, enters, leaves, Steps}
 use Rattle.votes.specs.Votes.{no_votes, bit_of}
 use Rattle.replica.specs.declared.state.Replica.{Replica}
 use Rattle.replica.specs.declared.state.Stage as declared
 use Rattle.replica.specs.declared.state.Stage.TheVariants.{Unopened, Open, Awaiting}
 use Rattle.replica.specs.Store.{Store}
+use Rattle.replica.specs.View.{book_of}
 use Rattle.replica.specs.Holding.{held_of}
 
 abbrev pub stage_in : Stage → declared.Stage
@@ -31,11 +32,6 @@ left_of m = record {
   pages = m.pages;
 }
 
--- a page becomes the last one of a ledger, and the head of its queue is its slot plus 1
-abbrev pub filed : Option (Page (List ℕ)) → Ledger (List ℕ) → Ledger (List ℕ)
-filed None l = l
-filed (Some p) l = record { book = l.book ++ (p ∷ []); heads = λ k. cond (k == p.queue) (suc p.slot) (l.heads k) }
-
 -- a page is written behind the others, and the head of its queue is its slot plus 1
 abbrev pub with_page : Replica → Page (List ℕ) → Replica
 with_page m p = record { set = m.set; epoch = m.epoch; stage = m.stage; votes = m.votes; past = m.past; heads = set m.heads p.queue (p.slot + 1); pages = m.pages + 1 }
@@ -44,13 +40,13 @@ abbrev pub filed_of : Option (Page (List ℕ)) → Replica → Store → Replica
 filed_of None m t = (m, t)
 filed_of (Some p) m t = (with_page m p, record { sends = t.sends; echoes = t.echoes; readies = t.readies; haves = t.haves; pages = set t.pages m.pages (Some p) })
 
--- a ledger that has a page more than the replica's book brings that page
 abbrev pub step_of : Small (List ℕ) → Replica → Store → Replica × Store
 step_of (says st) m t = held_of m t m.set.me st
 step_of (hears j st) m t = held_of m t j st
 step_of (stays g) m t = (with_stage m (stage_in g), t)
 step_of (enters e v) m t = held_of (with_stage m (Open 0 false)) t m.set.me (value e 0 v)
-step_of (leaves l) m t = let p = filed_of (slice_get l.book m.pages) m t in (left_of p.0, p.1)
+-- the page that the ledger has behind the replica's book, if any, is written
+step_of (leaves l) m t = let p = filed_of (slice_get l.book (length (book_of m t))) m t in (left_of p.0, p.1)
 
 -- one after the other
 abbrev pub steps_of : Steps (List ℕ) → Replica → Store → Replica × Store
