@@ -1,6 +1,8 @@
 // The worked examples that are proved, as one table, and the tests that are run: each range's edges and
 // what lies just past them, each refusal, frames cut at each byte.
 // Nothing here is used by another crate.
+#![tactic(auto)]
+
 ghost use Rattle.checks.specs.Examples.{All, examples};
 
 #[cfg(test)]

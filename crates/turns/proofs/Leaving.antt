@@ -5,6 +5,7 @@ use Rattle.std.specs.Option.{option_map}
 use Rattle.std.proofs.lemmas.Bool.{lt-ltb, le-ltb, eq-eqb, ne_eqb, cond-true, cond-false, cases_eq, cases_order}
 use Rattle.common.specs.Limits.{epochs}
 use Rattle.theory.specs.Statement.{value, seen, confirm, finish, Cell, at_send, at_echo, at_ready, at_have, at_value, at_seen, at_confirm, at_finish}
+use Rattle.theory.specs.Book.{Page, Ledger}
 use Rattle.theory.specs.Machine.{drop}
 use Rattle.votes.specs.Votes.{unmarked, no_votes, bit_of, set_for}
 use Rattle.votes.proofs.Marking.{marks_none, bit_none, set_none}

@@ -14,7 +14,7 @@ use Rattle.replica.specs.declared.state.Stage.TheVariants.{Open}
 use Rattle.replica.specs.Store.{Store}
 use Rattle.replica.specs.View.{stage_of, view, plan, book_of, box}
 use Rattle.replica.proofs.Putting.{Vacant, box_put}
-use Rattle.turns.specs.Stepping.{stage_in, with_stage, left_of, filed, filed_of, step_of, steps_of}
+use Rattle.turns.specs.Stepping.{stage_in, with_stage, left_of, filed_of, step_of, steps_of}
 use Rattle.turns.specs.Ties.{Whole, Tied}
 use Rattle.turns.proofs.Leaving.{view_left, head_more, filed, next_some}
 use Rattle.turns.proofs.Keeping.{held_whole, stage_whole, left_whole, Next, in_heads, book_more, page_whole}
