@@ -1,5 +1,5 @@
 # make run    builds the programs, proved, and prints the record of a stored frame and the view of a stored day
-# make test   the gate: proves every crate from nothing, tries the must-fail edits, runs programs and tests
+# make test   the gate: proves every crate, tries the must-fail edits, runs programs and tests
 
 .PHONY: run test
 

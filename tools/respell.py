@@ -4,9 +4,9 @@ answers a value or a proof, upper camel case for types and facts.
 
 usage: python3 tools/respell.py      once, at the top of the repository, after the kit's port.py
 
-Only names that are defined in specs/*.antt and proofs/*.antt are respelt, in all .antt and .rt files, must-fail
-and planted edits and, between backticks, in README.md and docs/. A name that a file imports from the library,
-and the names that the checker makes for goals and steps, stay.
+Only names that are defined in specs/*.antt and proofs/*.antt are respelt, in all .antt and .rt files and in must-fail
+and planted edits. A name that a file imports from the library, and the names that the checker makes for goals and
+steps, stay.
 """
 
 import os
@@ -17,7 +17,7 @@ OWN = [l.split(":")[0].strip() for l in open("crates.txt", encoding="utf-8") if 
 # names that would fall together with another one when respelt
 APART = {
     "read-of": "reading_of", "setIn": "set_numbered", "seenIn": "seen_inside", "setOf": "set_for", "bitIn": "bit_numbered",
-    "in-book": "stands_in_book", "entry-of": "entry_stated", "setNumber": "number_of_set", "markSet": "with_set",
+    "in-book": "stands_in_book", "entry-of": "entry_stated", "entry_of": "entry_stated", "setNumber": "number_of_set", "markSet": "with_set",
 }
 IDENT = r"[^\s(){}\[\];,.λ\"|@]+"
 TOKEN = re.compile(IDENT)
@@ -106,12 +106,6 @@ def main():
             for n in sorted(words & set(names)):
                 if names[n] in words:
                     print(f"look: {path}: {n} and {names[n]} both stand here")
-            with open(path, "w", encoding="utf-8") as f:
-                f.write(new)
-    for path in files(".md"):
-        text = read(path)
-        new = re.sub(r"`[^`\n]*`", lambda m: TOKEN.sub(lambda w: names.get(w.group(0), w.group(0)), m.group(0)) if not re.search(r"/|\.edit", m.group(0)) else m.group(0), text)
-        if new != text:
             with open(path, "w", encoding="utf-8") as f:
                 f.write(new)
     print(f"respell: {len(names)} names")
