@@ -4,5 +4,5 @@ pub mod Readings
 pub mod Orders
 pub mod Bytes
 pub mod OneHouse
-pub mod ReadingEntryLemmas
+pub mod ReadingUnique
 pub mod OrderUnique

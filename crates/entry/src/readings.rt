@@ -1,11 +1,10 @@
-ghost use Rattle.std.specs.Prelude.{◌≡◌, suc, ◌^◌, ◌<◌, false, Some, None, codes, MatchOption};
+ghost use Rattle.std.specs.Prelude.{◌≡◌, ◌<◌, false, Some, None, codes, MatchOption};
 ghost use Rattle.entry.specs.Numbers.{within};
 ghost use Rattle.entry.specs.Readings.{quantity_of, reading_bytes, is_reading, reading_columns};
 ghost use Rattle.std.proofs.Common.{arith, rules};
 ghost use Rattle.std.proofs.lemmas.Bool.Decides.{nat_tests};
-ghost use Rattle.entry.specs.Bytes.{octet_at, pair_unique, word_unique};
-ghost use Rattle.entry.specs.OneHouse.{house_same, le_path};
-ghost use Rattle.entry.specs.ReadingEntryLemmas.{quantity_unique};
+ghost use Rattle.entry.specs.Bytes.{octet_at};
+ghost use Rattle.entry.specs.ReadingUnique.{reading_unique};
 
 use crate::house::House;
 use crate::kind::Entry;
@@ -49,35 +48,21 @@ impl Entry for Reading {
 
     ghost columns = { reading_columns };
 
-    ghost least = { first_of (Prim.search rules, Prim.grind (arith, Self.row.coded.inj)) };
+    ghost least = { Prim.search rules };
 
-    ghost most = { first_of (Prim.search rules, Prim.grind (arith, Self.row.coded.inj)) };
+    ghost most = { Prim.search rules };
 
-    ghost wide = { first_of (Prim.search rules, Prim.grind (arith, Self.row.coded.inj)) };
+    ghost wide = { Prim.search rules };
 
     ghost octets = { λ s h. octet_at s (Prim.grind (arith, nat_tests)) };
 
-    ghost sound = { first_of (Prim.search rules, Prim.grind (arith, Self.row.coded.inj)) };
+    ghost sound = { Prim.search rules };
 
-    ghost unique = { λ x y e.
-        let number = pair_unique x.house.number y.house.number (omega (arith, x.house.most)) (omega (arith, y.house.most)) (cc) (cc) in
-        let house = house_same x.house y.house number in
-        let week : x.week ≡ y.week = cc in
-        let quantity = quantity_unique x.quantity y.quantity (cc) in
-        let amount = word_unique x.amount y.amount x.word y.word (cc) (cc) (cc) (cc) in
-        λ i. record {
-          house = house i;
-          week = week i;
-          quantity = quantity i;
-          amount = amount i;
-          least = le_path (λ _. 1) week x.least y.least i;
-          most = le_path week (λ _. 53) x.most y.most i;
-          word = le_path (λ k. suc (amount k)) (λ _. 2 ^ 32) x.word y.word i;
-        } };
+    ghost unique = { reading_unique };
 
-    ghost brief = { first_of (Prim.search rules, Prim.grind (arith, Self.row.coded.inj)) };
+    ghost brief = { Prim.search rules };
 
-    ghost matched = { first_of (Prim.search rules, Prim.grind (arith, Self.row.coded.inj)) };
+    ghost matched = { Prim.search rules };
 
     fn size() -> usize {
         Self::WIDTH

@@ -1,33 +1,25 @@
--- The script by bytes meets every premise, since it is the theory's script.
-use Rattle.std.proofs.Common.{◌≡◌, ℕ, zero, suc, ◌+◌, ◌*◌, ◌<◌, ◌≤◌, true, not, List, [], ◌∷◌, length, replicate, None, sym, refl, ◌∙◌, subst, arith}
+-- The script by bytes meets every premise, since the theory's boxes meet them after its calls.
+use Rattle.std.proofs.Common.{◌≡◌, ℕ, zero, suc, ◌+◌, ◌*◌, ◌<◌, ◌≤◌, true, not, replicate, None, refl, ◌∙◌, arith}
 use mathlib.Core.Bool.{false≢true}
-use Rattle.std.proofs.lemmas.Bool.{eqb-true, ltb-true, and_parts}
+use Rattle.std.proofs.lemmas.Bool.{ltb-true}
 use Rattle.common.specs.Limits.{most_replicas, epochs}
 use Rattle.common.specs.Quorums.{faults, echoes}
 use Rattle.theory.specs.Count.{count}
 use Rattle.theory.specs.Statement.{sends, echo, ready}
-use Rattle.theory.specs.Plan.{Rule}
-use Rattle.theory.specs.Machine.{Board, Holds}
-use Rattle.theory.specs.Calls as theory
-use Rattle.theory.specs.Promises as theorem
-use Rattle.theory.specs.ByteScript.{by_turns, truth, lie, page}
-use Rattle.theory.specs.ByteScript as spoken
-use Rattle.theory.proofs.ByteExample as boxes
-use Rattle.entry.specs.Readings.{is_reading}
+use Rattle.theory.specs.Script.{by_turns}
 use Rattle.votes.specs.Votes.{no_votes}
 use Rattle.replica.specs.declared.set.Set as numbered
 use Rattle.replica.specs.declared.state.Stage.TheVariants.{Unopened}
 use Rattle.replica.specs.Store.{Store}
 use Rattle.replica.specs.Making.{make_of}
-use Rattle.promises.specs.Runs.{Kind, State}
+use Rattle.promises.specs.Runs.{State}
 use Rattle.promises.specs.Promised.{Made, Set, Honest, Lending}
-use Rattle.promises.specs.Met.{script, Met}
-use Rattle.promises.proofs.Typing.{few_room, quorums_cross, some_round, calls}
+use Rattle.promises.specs.Met.{truth, lie, script, Met}
+use Rattle.promises.proofs.Typing.{few_room, quorums_cross, some_round}
 use Rattle.promises.proofs.Transferring.{R, honest_box, on_board}
 use Rattle.promises.proofs.Meeting.{own_lending, fair_here, quiet_here, book_here, holds_here}
-
-abbrev kind : Kind
-kind = record { width = 8; valid = is_reading; wide = λ s e. eqb-true (length s) 8 (and_parts _ _ e).0 }
+use Rattle.promises.proofs.Computing.{kind}
+use Rattle.promises.proofs.Computing as boxes
 
 -- tables that are just long enough, with nothing in them
 abbrev tables : Store
@@ -72,10 +64,6 @@ four = record {
   made = made;
 }
 
--- by statements, it is the theory's
-same : calls kind script ≡ spoken.script
-same = refl
-
 lending : Lending four script
 lending = own_lending four script refl
 
@@ -85,24 +73,8 @@ room = few_room 4 four.least
 abbrev cross : 4 + faults 4 < 2 * echoes 4
 cross = quorums_cross 4 four.least
 
-abbrev rule : Rule (List ℕ)
-rule = boxes.rule few room cross some_round
-
--- what the theory's boxes meet after its script, they meet after this one's calls
-carried : (P : theory.Calls (List ℕ) → Type 0) → P spoken.script → P (calls kind script)
-carried P = subst P (sym same)
-
-box_fair : theorem.Fair (R four) (calls kind script)
-box_fair = carried (λ c. theorem.Fair rule c) (boxes.fair few room cross some_round)
-
-box_quiet : theorem.Quiet (R four) (calls kind script)
-box_quiet = carried (λ c. theorem.Quiet rule c) (boxes.quiet few room cross some_round)
-
-box_believed : Holds (theorem.box (R four) (calls kind script) 1) 3 (echo 0 0 lie) × Holds (theorem.box (R four) (calls kind script) 2) 3 (ready 0 0 lie) × Board (theorem.box (R four) (calls kind script) 0) (sends 0 truth)
-box_believed = carried (λ c. Holds (theorem.box rule c 1) 3 (echo 0 0 lie) × Holds (theorem.box rule c 2) 3 (ready 0 0 lie) × Board (theorem.box rule c 0) (sends 0 truth)) (boxes.believed few room cross some_round)
-
-box_written : (i : ℕ) → Honest four i → theorem.book (R four) (calls kind script) i ≡ page ∷ []
-box_written i h = carried (λ c. theorem.book rule c i ≡ page ∷ []) (boxes.written few room cross some_round i (honest_box four i h))
+box_believed : boxes.Believed (R four)
+box_believed = boxes.believed few room cross some_round
 
 none : Honest four 0
 none = (omega arith, refl)
@@ -124,9 +96,9 @@ met = record {
   readings = (refl, refl);
   honest = (none, one, two);
   faulty = λ h. false≢true h.1;
-  fair = fair_here four script lending box_fair;
+  fair = fair_here four script lending (boxes.fair few room cross some_round);
   believed = (holds_here four script lending 1 one 3 (echo 0 0 lie) box_believed.0, holds_here four script lending 2 two 3 (ready 0 0 lie) box_believed.1);
   shown = on_board four script lending 0 none (sends 0 truth) box_believed.2;
-  written = λ i h. book_here four script lending i h ∙ box_written i h;
-  quiet = quiet_here four script lending box_quiet;
+  written = λ i h. book_here four script lending i h ∙ boxes.written few room cross some_round i (honest_box four i h);
+  quiet = quiet_here four script lending (boxes.quiet few room cross some_round);
 }

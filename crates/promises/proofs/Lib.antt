@@ -7,4 +7,5 @@ pub mod Transferring
 pub mod Valid
 pub mod Standing
 pub mod Meeting
+pub mod Computing
 pub mod Example

@@ -3,12 +3,20 @@ use Rattle.std.specs.Prelude.{◌≡◌, ℕ, true, List, [], ◌∷◌, ◌++�
 use Rattle.std.specs.List.{ContainsAt}
 use Rattle.theory.specs.Statement.{only, Stmt, sends, echo, ready, have, value, seen, confirm, finish}
 use Rattle.theory.specs.Machine.{Holds}
-use Rattle.theory.specs.ByteScript.{by_turns, truth, lie, page}
+use Rattle.theory.specs.Book.{Page}
+use Rattle.theory.specs.Script.{by_turns}
 use Rattle.entry.specs.Readings.{is_reading}
 use Rattle.replica.specs.View.{box}
 use Rattle.showing.specs.Spoken.{spelled}
 use Rattle.promises.specs.Runs.{Call, submit, opens, hear, turns, Asked}
 use Rattle.promises.specs.Promised.{Set, Honest, state, book, board, Fair, Quiet}
+
+-- the reading that replica 0 submits, and one that it never does
+abbrev pub truth : List ℕ
+truth = 0 ∷ 12 ∷ 7 ∷ 1 ∷ 0 ∷ 0 ∷ 13 ∷ 72 ∷ []
+
+abbrev pub lie : List ℕ
+lie = 0 ∷ 99 ∷ 7 ∷ 1 ∷ 0 ∷ 0 ∷ 0 ∷ 1 ∷ []
 
 -- replica i is called with its own tables; it hears the bytes of x from replica j
 abbrev pub asked : ℕ → Call → Asked
@@ -48,6 +56,10 @@ latest_first (a ∷ c) d = latest_first c (a ∷ d)
 -- at last each decides and writes
 abbrev pub script : List Asked
 script = latest_first (sending ++ (keeping ++ (agreeing ++ (each turns ++ each turns)))) []
+
+-- the page that each then writes
+abbrev pub page : Page (List ℕ)
+page = record { epoch = 0; queue = 0; slot = 0; entry = truth }
 
 -- The script is fair, replica 3 alone is faulty and was believed to have said what is false, each honest book has
 -- the page that replica 0 submitted, and all is quiet.

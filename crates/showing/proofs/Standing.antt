@@ -12,6 +12,7 @@ use Rattle.votes.specs.declared.marks.Marks.{Marks}
 use Rattle.votes.specs.Votes.{unmarked, bit_of, set_for}
 use Rattle.cells.specs.Rows.{Cells}
 use Rattle.wire.specs.Codec.{unfit, misfit, oversize}
+use Rattle.wire.proofs.Reading.{byte_fits}
 use Rattle.replica.specs.declared.state.Replica.{Replica}
 use Rattle.replica.specs.declared.lent.Tables.{Tables}
 use Rattle.replica.specs.Store.{Store, store}
@@ -67,9 +68,6 @@ run_has k f i c h e =
 
 entry_fits : (w : ℕ) (x : List ℕ) → length x ≡ w → misfit w x ≡ None
 entry_fits w x e = rw (le-ltb (length x) w (omega arith), le-ltb w (length x) (omega arith)) refl
-
-epoch_fits : (e : ℕ) → e < 256 → oversize e ≡ None
-epoch_fits e h = rw (le-ltb 255 e (omega arith)) refl
 
 row_index : (n w q s : ℕ) → q < n → s < w → q * w + s < n * w
 row_index n w q s low inside = omega (arith, mul-add-lt q w s n low inside)
@@ -152,7 +150,7 @@ module _ (m : Replica) (r : Stmt (List ℕ)) (j : ℕ) where
       let epoch = eqb-true e m.epoch q.1 in
       record {
         own = ap cell (sym f.makes) ∙ cell_of f.part f.is;
-        fits = λ w ok. ap (λ t. unfit w (spoken t)) (sym f.makes) ∙ unfitOf w f.part ∙ epoch_fits e (ltb-true e epochs q.0);
+        fits = λ w ok. ap (λ t. unfit w (spoken t)) (sym f.makes) ∙ unfitOf w f.part ∙ byte_fits e (ltb-true e epochs q.0);
         listed = in_votes m (by_kind e k d) (run_has (4 * rounds) (by_round m.epoch) (k * 4 + d) (by_kind e k d) (vote_index k d round low) (λ i. by_kind (sym epoch i) (div-mul-add k 4 d low i) (mod-mul-add k 4 d low i)));
       }
 
@@ -176,7 +174,7 @@ module _ (m : Replica) (r : Stmt (List ℕ)) (j : ℕ) where
       let low = ltb-true _ _ (and_parts _ _ d.holds).1 in
       record {
         own = ap cell (sym d.makes);
-        fits = λ w ok. ap (λ t. unfit w (spoken t)) (sym d.makes) ∙ epoch_fits e low;
+        fits = λ w ok. ap (λ t. unfit w (spoken t)) (sym d.makes) ∙ byte_fits e low;
         listed = past_haves m (at_finish e) (has_append_left (run epochs at_finish) (votes m (at_finish e)) (at_finish e) (run_has epochs at_finish e (at_finish e) low refl));
       }
 

@@ -2,7 +2,7 @@
 ghost use Rattle.std.specs.Prelude.{◌≡◌, ℕ, ◌≤◌, List, length, take, Some, None};
 ghost use Rattle.std.specs.Option.{option_map};
 ghost use Rattle.common.specs.Refusals.{numbered};
-ghost use Rattle.theory.specs.Count.{bit as digitOf};
+ghost use Rattle.theory.specs.Count.{bit as digit_of};
 ghost use Rattle.theory.specs.Statement.{entry_stated};
 ghost use Rattle.wire.specs.Statements.{message_of};
 ghost use Rattle.wire.specs.Codec.{placed, unfit};
@@ -16,7 +16,7 @@ use wire::Statement;
 
 // A bit and a set, by their numbers.
 fn digit(bit: bool) -> u8
-    ensures { result ≡ digitOf bit }
+    ensures { result ≡ digit_of bit }
 {
     if bit { 1 } else { 0 }
 }

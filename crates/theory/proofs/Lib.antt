@@ -28,4 +28,3 @@ pub mod Evening
 pub mod Quieting
 pub mod Testing
 pub mod Example
-pub mod ByteExample

@@ -13,4 +13,3 @@ pub mod Rules
 pub mod Effects
 pub mod Laws
 pub mod Script
-pub mod ByteScript

@@ -111,7 +111,7 @@ fits_from w n t long =
     let b : ltb w (length (drop n t)) ≡ false = grind (arith, nat_tests) in
     rw (a, b) refl
 
-byte_fits : (e : ℕ) → e < 256 → oversize e ≡ None
+pub byte_fits : (e : ℕ) → e < 256 → oversize e ≡ None
 byte_fits e h = let a : ltb 255 e ≡ false = grind (arith, nat_tests) in rw a refl
 
 -- what was read from bytes can be written

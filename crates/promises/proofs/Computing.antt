@@ -1,52 +1,53 @@
--- The list of calls with byte strings meets every premise: the tests compute.
-use Rattle.std.proofs.Common.{◌≡◌, ℕ, ◌+◌, ◌*◌, ◌<◌, ◌≤◌, Bool, true, false, not, ◌&&◌, eqb, ltb, List, [], ◌∷◌, sym, refl, ◌∙◌, subst, arith}
+-- What the theory's boxes meet after the calls of the script: the tests compute.
+use Rattle.std.proofs.Common.{◌≡◌, ℕ, ◌+◌, ◌*◌, ◌%◌, ◌<◌, ◌≤◌, Bool, true, false, not, ◌&&◌, ltb, List, [], ◌∷◌, length, sym, refl, ◌∙◌, subst, arith}
 use mathlib.Core.Bool.{false≢true}
-use mathlib.Core.List.{List-discrete}
 use mathlib.Core.Logic.{Dec-prop}
 use mathlib.Core.HLevel.{hedberg}
 use native.Mathlib.Bridge.{le_prop}
 use native.Mathlib.Decide.{ℕ_discrete}
-use Rattle.std.proofs.lemmas.Bool.{and_parts, and_from, eqb-true, eq-eqb}
+use Rattle.std.proofs.lemmas.Bool.{and_parts, eqb-true}
 use Rattle.common.specs.Quorums.{faults, echoes}
 use Rattle.theory.specs.Count.{Honest, count}
 use Rattle.theory.specs.Statement.{sends, echo, CellDiscrete, ready}
-use Rattle.theory.specs.Plan.{Rule, boxes}
+use Rattle.theory.specs.Plan.{Plan, Rule, boxes}
 use Rattle.theory.specs.Machine.{Holds, Board}
 use Rattle.theory.specs.Search.{or_else, first, bits, only_if, guard, unless, given, bind, map, entry}
 use Rattle.theory.specs.Turns.{backed}
 use Rattle.theory.specs.Promises.{box, book, Fair, Quiet}
-use Rattle.theory.specs.ByteScript.{among, by_turns, truth, lie, script, page, Met}
+use Rattle.theory.specs.Calls.{Calls}
+use Rattle.theory.specs.Script.{by_turns}
 use Rattle.theory.proofs.Testing.{fair_test, fair_check, still, quiet_check}
 use Rattle.theory.proofs.Quieting.{promise}
+use Rattle.entry.specs.Readings.{is_reading}
+use Rattle.cells.specs.Rows.{alike}
+use Rattle.cells.proofs.Alike.{alike_decides}
+use Rattle.replica.specs.View.{bytes_same}
+use Rattle.promises.specs.Runs.{Kind}
+use Rattle.promises.specs.Met.{truth, lie, page}
+use Rattle.promises.specs.Met as bytes
+use Rattle.promises.proofs.Typing.{calls}
+
+abbrev pub kind : Kind
+kind = record { width = 8; valid = is_reading; wide = λ s e. eqb-true (length s) 8 (and_parts _ _ e).0 }
+
+-- the script by statements
+abbrev pub script : Calls (List ℕ)
+script = calls kind bytes.script
+
+-- four boxes of two slots; epoch e is of queue e mod 4
+abbrev among : Discrete (List ℕ) → Plan (List ℕ)
+among same = record { size = 4; faults = faults 4; quorum = echoes 4; width = 2; epochs = 256; rounds = 16; queue = λ e. e % 4; eq = same }
 
 -- equality of byte strings, by a test that computes
-alike : List ℕ → List ℕ → Bool
-alike [] [] = true
-alike [] (y ∷ ys) = false
-alike (x ∷ xs) [] = false
-alike (x ∷ xs) (y ∷ ys) = eqb x y && alike xs ys
-
-alike_same : (xs ys : List ℕ) → alike xs ys ≡ true → xs ≡ ys
-unfolding alike
-alike_same [] [] e = refl
-alike_same [] (y ∷ ys) e = absurd (false≢true e)
-alike_same (x ∷ xs) [] e = absurd (false≢true e)
-alike_same (x ∷ xs) (y ∷ ys) e = let p = and_parts (eqb x y) (alike xs ys) e in let h = eqb-true x y p.0 in let t = alike_same xs ys p.1 in cc
-
-alike_self : (xs : List ℕ) → alike xs xs ≡ true
-unfolding alike
-alike_self [] = refl
-alike_self (x ∷ xs) = and_from (eqb x x) (alike xs xs) (eq-eqb x x refl) (alike_self xs)
-
 by_test : (xs ys : List ℕ) (b : Bool) → alike xs ys ≡ b → Dec (xs ≡ ys)
-by_test xs ys true e = yes (alike_same xs ys e)
-by_test xs ys false e = no (λ p. false≢true (sym e ∙ subst (λ (z : List ℕ). alike xs z ≡ true) p (alike_self xs)))
+by_test xs ys true e = yes ((alike_decides xs ys).0 e)
+by_test xs ys false e = no (λ p. false≢true (sym e ∙ (alike_decides xs ys).1 p))
 
 by_bytes : Discrete (List ℕ)
 by_bytes xs ys = by_test xs ys (alike xs ys) refl
 
-by_bytes_is : by_bytes ≡ List-discrete ℕ_discrete
-by_bytes_is = λ i x y. Dec-prop (hedberg (List-discrete ℕ_discrete) x y) (by_bytes x y) (List-discrete ℕ_discrete x y) i
+by_bytes_is : by_bytes ≡ bytes_same
+by_bytes_is = λ i x y. Dec-prop (hedberg (bytes_same) x y) (by_bytes x y) (bytes_same x y) i
 
 -- box 3 is the faulty one
 abbrev pub first_three : ℕ → Bool
@@ -65,28 +66,28 @@ abbrev computing : Rule (List ℕ)
 computing = ruled by_bytes few_three (omega arith) (omega arith) (omega arith)
 
 script_fair : fair_test computing script ≡ true
-unfolding or_else first bits only_if guard unless given bind entry backed map CellDiscrete ℕ_discrete alike by_test by_bytes
+unfolding or_else first bits only_if guard unless given bind entry backed map CellDiscrete ℕ_discrete by_test by_bytes
 script_fair = refl
 
 script_still : count 4 (λ i. first_three i && not (still computing script i)) ≡ 0
-unfolding or_else first bits only_if guard unless given bind entry backed map CellDiscrete ℕ_discrete alike by_test by_bytes
+unfolding or_else first bits only_if guard unless given bind entry backed map CellDiscrete ℕ_discrete by_test by_bytes
 script_still = refl
 
 script_written : book computing script 1 ≡ page ∷ []
-unfolding or_else first bits only_if guard unless given bind entry backed map CellDiscrete ℕ_discrete alike by_test by_bytes
+unfolding or_else first bits only_if guard unless given bind entry backed map CellDiscrete ℕ_discrete by_test by_bytes
 script_written = refl
 
-abbrev Believed : Rule (List ℕ) → Type 0
+abbrev pub Believed : Rule (List ℕ) → Type 0
 Believed R = Holds (box R script 1) 3 (echo 0 0 lie) × Holds (box R script 2) 3 (ready 0 0 lie) × Board (box R script 0) (sends 0 truth)
 
 script_believed : Believed computing
-unfolding or_else first bits only_if guard unless given bind entry backed map CellDiscrete ℕ_discrete alike by_test by_bytes
+unfolding or_else first bits only_if guard unless given bind entry backed map CellDiscrete ℕ_discrete by_test by_bytes
 script_believed = (refl, refl, refl)
 
 -- the same with the equality that the plan names, whatever proves that one faulty box is not too many
 module _ (few : Few) (room : 3 * faults 4 < 4) (cross : 4 + faults 4 < 2 * echoes 4) (rounded : 1 ≤ 16) where
   abbrev pub rule : Rule (List ℕ)
-  rule = ruled (List-discrete ℕ_discrete) few room cross rounded
+  rule = ruled (bytes_same) few room cross rounded
 
   carried : (P : Rule (List ℕ) → Type 0) → P computing → P rule
   carried P = subst P (λ i. ruled (by_bytes_is i) (le_prop few_three few i) (le_prop computing.room room i) (le_prop computing.cross cross i) (le_prop computing.rounded rounded i))
@@ -105,19 +106,3 @@ module _ (few : Few) (room : 3 * faults 4 < 4) (cross : 4 + faults 4 < 2 * echoe
 
   pub written : (i : ℕ) → Honest (boxes rule) i → book rule script i ≡ page ∷ []
   written i is = (promise (List ℕ) rule script fair).evening_out quiet i 1 is one ∙ carried (λ R. book R script 1 ≡ page ∷ []) script_written
-
-pub met : Met
-met =
-    let room : 3 * faults 4 < 4 = omega arith in
-    let cross : 4 + faults 4 < 2 * echoes 4 = omega arith in
-    let rounded : 1 ≤ 16 = omega arith in
-    record {
-      rule = rule few_three room cross rounded;
-      plan = refl;
-      coin = refl;
-      fair = fair few_three room cross rounded;
-      faulty = λ e. false≢true e;
-      believed = believed few_three room cross rounded;
-      written = written few_three room cross rounded;
-      quiet = quiet few_three room cross rounded;
-    }
