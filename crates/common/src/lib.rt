@@ -6,7 +6,6 @@
 mod limits;
 mod quorums;
 mod refusal;
-mod refusals;
 
 pub use limits::{EPOCHS, MAX_REPLICAS, MAX_SLOTS, MIN_REPLICAS, ROUNDS};
 pub use quorums::quorum;

@@ -1,14 +1,14 @@
-ghost use Rattle.std.specs.Prelude.{◌≡◌, ℕ, ◌<◌, ◌≤◌, Bool, true, false, List, ◌++◌, length, drop, Some, MatchBool, MatchOption, ◌≢◌, slice_index};
+ghost use Rattle.std.specs.Prelude.{◌≡◌, ℕ, ◌<◌, ◌≤◌, ◌↔◌, Bool, true, false, List, ◌++◌, length, drop, Some, MatchOption, slice_index};
 ghost use Rattle.std.specs.List.{slice_get};
 ghost use Rattle.entry.specs.Columns.{breadth_of};
 
 // A kind of entry.
-pub trait Entry: Copy {
+pub trait Entry: Copy + Eq {
     // How many bytes an entry has.
     const WIDTH: usize;
 
     // the same number, for the promises
-    ghost width: { ℕ };
+    ghost WIDTH: { ℕ };
 
     // the byte strings that are entries
     ghost valid: { List ℕ → Bool };
@@ -22,22 +22,14 @@ pub trait Entry: Copy {
     // the numbers in an entry's columns, from its bytes
     ghost columns: { List ℕ → List ℕ };
 
-    // WIDTH, as a number that generic code knows.
-    fn size() -> usize
-        ensures { result ≡ width };
-
     // The entry that these bytes are, if they are one.
     fn read(s: &[u8]) -> Option<Self>
         ensures { MatchOption result (valid s.now ≡ false) (λ x. bytes x ≡ s.now) };
 
     // Writes the entry's bytes at the front of `out`.
     fn write(&self, out: &mut [u8])
-        requires { width ≤ length out.old }
-        ensures { out.new ≡ bytes self.now ++ drop width out.old };
-
-    // Whether the two are the same entry.
-    fn same(&self, other: &Self) -> bool
-        ensures { MatchBool result (bytes self.now ≡ bytes other.now) (bytes self.now ≢ bytes other.now) };
+        requires { WIDTH ≤ length out.old }
+        ensures { out.new ≡ bytes self.now ++ drop WIDTH out.old };
 
     // The names of the columns.
     fn names<'a>() -> &'a [u8]
@@ -47,17 +39,20 @@ pub trait Entry: Copy {
     fn column(&self, i: usize) -> Option<u32>
         ensures { result ≡ slice_get (columns (bytes self.now)) i };
 
-    ghost least: { 1 ≤ width };
+    ghost least: { 1 ≤ WIDTH };
 
-    ghost most: { width ≤ 32 };
+    ghost most: { WIDTH ≤ 32 };
 
-    ghost wide: { (s : List ℕ) → valid s ≡ true → length s ≡ width };
+    ghost wide: { (s : List ℕ) → valid s ≡ true → length s ≡ WIDTH };
 
     ghost octets: { (s : List ℕ) → valid s ≡ true → (i : ℕ) → slice_index s i < 256 };
 
     ghost sound: { (x : Self) → valid (bytes x) ≡ true };
 
     ghost unique: { (x y : Self) → bytes x ≡ bytes y → x ≡ y };
+
+    // the same exactly when the bytes are
+    ghost same: { (x y : Self) → (Self.eq x y ≡ true) ↔ (bytes x ≡ bytes y) };
 
     ghost brief: { length heading < 256 };
 
@@ -71,5 +66,5 @@ pub fn reread<K: Entry>(x: &K) -> Option<K>
 {
     let mut bytes = [0; 32];
     x.write(&mut bytes);
-    K::read(&bytes[0..K::size()])
+    K::read(&bytes[..K::WIDTH])
 }

@@ -15,4 +15,4 @@ mod readings;
 pub use house::House;
 pub use kind::{Entry, reread};
 pub use order::{Gift, ShareOrder};
-pub use reading::{Quantity, Reading};
+pub use reading::{Quantity, Reading, UnknownQuantity};

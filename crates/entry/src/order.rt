@@ -3,7 +3,7 @@ ghost use Rattle.std.specs.Prelude.{◌≡◌, ◌^◌, ◌<◌, ◌≤◌, ◌�
 use crate::house::House;
 
 // A share that one house gives to another.
-#[derive(Clone, Copy)]
+#[derive(Clone, Copy, Debug, PartialEq, Eq)]
 pub struct Gift {
     pub from: House,
     pub to: House,
@@ -14,7 +14,7 @@ pub struct Gift {
 }
 
 // What a house orders of its share.
-#[derive(Clone, Copy)]
+#[derive(Clone, Copy, Debug, PartialEq, Eq)]
 pub enum ShareOrder {
     Give(Gift),
     // The house is closed for the week.

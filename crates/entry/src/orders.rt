@@ -14,9 +14,7 @@ impl ShareOrder {
     pub fn give(from: House, to: u16, amount: u32) -> Option<ShareOrder>
         ensures { MatchOption result (is_gift from.number to amount ≡ false) (λ x. fields_of x ≡ (1, from.number, to, amount)) }
     {
-        let Some(to) = House::new(to) else {
-            return None;
-        };
+        let to = House::new(to)?;
         if from.number == to.number || amount < 1 {
             return None;
         }
@@ -47,7 +45,7 @@ impl ShareOrder {
 impl Entry for ShareOrder {
     const WIDTH: usize = 9;
 
-    ghost width = { 9 };
+    ghost WIDTH = { 9 };
 
     ghost valid = { is_order };
 
@@ -69,24 +67,20 @@ impl Entry for ShareOrder {
 
     ghost unique = { order_unique };
 
+    ghost same = { Prim.search rules };
+
     ghost brief = { Prim.search rules };
 
     ghost matched = { Prim.search rules };
 
-    fn size() -> usize {
-        Self::WIDTH
-    }
-
     fn read(s: &[u8]) -> Option<Self> {
-        let [kind, f1, f0, t1, t0, a3, a2, a1, a0] = s else {
+        let &[kind, f1, f0, t1, t0, a3, a2, a1, a0] = s else {
             return None;
         };
-        let Some(from) = House::new(u16::from_be_bytes([*f1, *f0])) else {
-            return None;
-        };
-        let to = u16::from_be_bytes([*t1, *t0]);
-        let amount = u32::from_be_bytes([*a3, *a2, *a1, *a0]);
-        match *kind {
+        let from = House::new(u16::from_be_bytes([f1, f0]))?;
+        let to = u16::from_be_bytes([t1, t0]);
+        let amount = u32::from_be_bytes([a3, a2, a1, a0]);
+        match kind {
             1 => ShareOrder::give(from, to, amount),
             2 => ShareOrder::close(from, to, amount),
             _ => None,
@@ -98,21 +92,7 @@ impl Entry for ShareOrder {
         let [f1, f0] = from.to_be_bytes();
         let [t1, t0] = to.to_be_bytes();
         let [a3, a2, a1, a0] = amount.to_be_bytes();
-        out[0] = kind;
-        out[1] = f1;
-        out[2] = f0;
-        out[3] = t1;
-        out[4] = t0;
-        out[5] = a3;
-        out[6] = a2;
-        out[7] = a1;
-        out[8] = a0;
-    }
-
-    fn same(&self, other: &Self) -> bool {
-        let (kind, from, to, amount) = self.fields();
-        let (kind2, from2, to2, amount2) = other.fields();
-        kind == kind2 && from == from2 && to == to2 && amount == amount2
+        out[..9].copy_from_slice(&[kind, f1, f0, t1, t0, a3, a2, a1, a0]);
     }
 
     fn names<'a>() -> &'a [u8] {
@@ -122,9 +102,9 @@ impl Entry for ShareOrder {
     fn column(&self, i: usize) -> Option<u32> {
         let (kind, from, to, amount) = self.fields();
         match i {
-            0 => Some(kind as u32),
-            1 => Some(from as u32),
-            2 => Some(to as u32),
+            0 => Some(u32::from(kind)),
+            1 => Some(u32::from(from)),
+            2 => Some(u32::from(to)),
             3 => Some(amount),
             _ => None,
         }

@@ -1,4 +1,4 @@
-ghost use Rattle.std.specs.Prelude.{◌≡◌, ◌<◌, false, Some, None, codes, MatchOption};
+ghost use Rattle.std.specs.Prelude.{◌≡◌, ◌<◌, false, Some, None, codes, MatchOption, MatchResult};
 ghost use Rattle.entry.specs.Numbers.{within};
 ghost use Rattle.entry.specs.Readings.{quantity_of, reading_bytes, is_reading, reading_columns};
 ghost use Rattle.std.proofs.Common.{arith, rules};
@@ -8,29 +8,29 @@ ghost use Rattle.entry.specs.ReadingUnique.{reading_unique};
 
 use crate::house::House;
 use crate::kind::Entry;
-use crate::reading::{Quantity, Reading};
+use crate::reading::{Quantity, Reading, UnknownQuantity};
 
-impl Quantity {
-    // Its number in bytes and columns.
-    pub fn number(self) -> u8
-        ensures { result ≡ quantity_of self }
-    {
-        match self {
-            Quantity::Heat => 1,
-            Quantity::Water => 2,
-            Quantity::Carbon => 3,
-        }
+// Its number in bytes and columns.
+impl From<Quantity> for u8 {
+    ghost from_gives = { λ quantity n. n ≡ quantity_of quantity };
+
+    fn from(quantity: Quantity) -> u8 {
+        quantity as u8
     }
+}
 
-    // The quantity of this number, if there is one.
-    pub fn new(number: u8) -> Option<Quantity>
-        ensures { MatchOption result (within 1 3 number ≡ false) (λ q. quantity_of q ≡ number) }
-    {
+// The quantity of a number, if there is one.
+impl TryFrom<u8> for Quantity {
+    type Error = UnknownQuantity;
+
+    ghost try_from_gives = { λ n r. MatchResult r (λ q. quantity_of q ≡ n) (λ e. (e.0 ≡ n) × (within 1 3 n ≡ false)) };
+
+    fn try_from(number: u8) -> Result<Quantity, UnknownQuantity> {
         match number {
-            1 => Some(Quantity::Heat),
-            2 => Some(Quantity::Water),
-            3 => Some(Quantity::Carbon),
-            _ => None,
+            1 => Ok(Quantity::Heat),
+            2 => Ok(Quantity::Water),
+            3 => Ok(Quantity::Carbon),
+            _ => Err(UnknownQuantity(number)),
         }
     }
 }
@@ -38,7 +38,7 @@ impl Quantity {
 impl Entry for Reading {
     const WIDTH: usize = 8;
 
-    ghost width = { 8 };
+    ghost WIDTH = { 8 };
 
     ghost valid = { is_reading };
 
@@ -60,29 +60,22 @@ impl Entry for Reading {
 
     ghost unique = { reading_unique };
 
+    ghost same = { Prim.search rules };
+
     ghost brief = { Prim.search rules };
 
     ghost matched = { Prim.search rules };
 
-    fn size() -> usize {
-        Self::WIDTH
-    }
-
     fn read(s: &[u8]) -> Option<Self> {
-        let [h1, h0, week, q, a3, a2, a1, a0] = s else {
+        let &[h1, h0, week, q, a3, a2, a1, a0] = s else {
             return None;
         };
-        let Some(house) = House::new(u16::from_be_bytes([*h1, *h0])) else {
-            return None;
-        };
-        let week = *week;
+        let house = House::new(u16::from_be_bytes([h1, h0]))?;
         if week < 1 || week > 53 {
             return None;
         }
-        let Some(quantity) = Quantity::new(*q) else {
-            return None;
-        };
-        let amount = u32::from_be_bytes([*a3, *a2, *a1, *a0]);
+        let quantity = Quantity::try_from(q).ok()?;
+        let amount = u32::from_be_bytes([a3, a2, a1, a0]);
         Some(Reading {
             house,
             week,
@@ -94,21 +87,8 @@ impl Entry for Reading {
     fn write(&self, out: &mut [u8]) {
         let [h1, h0] = self.house.number.to_be_bytes();
         let [a3, a2, a1, a0] = self.amount.to_be_bytes();
-        out[0] = h1;
-        out[1] = h0;
-        out[2] = self.week;
-        out[3] = self.quantity.number();
-        out[4] = a3;
-        out[5] = a2;
-        out[6] = a1;
-        out[7] = a0;
-    }
-
-    fn same(&self, other: &Self) -> bool {
-        self.house.number == other.house.number
-            && self.week == other.week
-            && self.quantity.number() == other.quantity.number()
-            && self.amount == other.amount
+        let quantity = u8::from(self.quantity);
+        out[..8].copy_from_slice(&[h1, h0, self.week, quantity, a3, a2, a1, a0]);
     }
 
     fn names<'a>() -> &'a [u8] {
@@ -117,9 +97,9 @@ impl Entry for Reading {
 
     fn column(&self, i: usize) -> Option<u32> {
         match i {
-            0 => Some(self.house.number as u32),
-            1 => Some(self.week as u32),
-            2 => Some(self.quantity.number() as u32),
+            0 => Some(u32::from(self.house.number)),
+            1 => Some(u32::from(self.week)),
+            2 => Some(u32::from(u8::from(self.quantity))),
             3 => Some(self.amount),
             _ => None,
         }

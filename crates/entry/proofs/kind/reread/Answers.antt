@@ -1,4 +1,4 @@
-use Rattle.std.proofs.Common.{◌≡◌, ℕ, ◌-◌, Bool, true, false, List, length, take, Some, None, Option, sym, ap, ◌∙◌, arith, MatchOption}
+use Rattle.std.proofs.Common.{◌≡◌, ℕ, Bool, true, false, List, length, take, Some, None, Option, sym, ap, ◌∙◌, arith, MatchOption}
 use Rattle.std.proofs.lemmas.List.{take_at}
 use Rattle.entry.proofs.kind.reread.Goals as goal
 
@@ -15,7 +15,7 @@ returns g c =
     let k = g.K.Entry in
     let m = g.met.K.Entry in
     let x = c.args.x.now in
-    let long : k.width ≡ length (k.bytes x) = sym (m.wide _ (m.sound x)) in
+    let long : k.WIDTH ≡ length (k.bytes x) = sym (m.wide _ (m.sound x)) in
     again k.bytes k.valid m.sound m.unique x _
-    (ap (take (c.size.result - 0)) c.write.ensures ∙ take_at (k.bytes x) _ (c.size.result - 0) (omega (arith, c.size.ensures)))
+    (ap (take c.WIDTH.result) c.write.ensures ∙ take_at (k.bytes x) _ c.WIDTH.result (omega (arith, c.WIDTH.ensures)))
     c.read.result c.read.ensures

@@ -31,7 +31,7 @@ no-close s k e = grind (arith, nat_tests)
 pub returns-in-1 : goal.returns-in-1
 returns-in-1 c =
     let s = c.args.s.now in
-    let from = c.in-Some.ensures ∙ c.from_be_bytes.ensures in
+    let from = c.in_ok-from.ensures ∙ c.from_be_bytes.ensures in
     let to = c.from_be_bytes-to.ensures in
     let amount = c.from_be_bytes-amount.ensures in
     tried s (search rules) (λ i. (c.type_inv.s i).fits) _ (sym c.in-1.is) from to amount _
@@ -40,7 +40,7 @@ returns-in-1 c =
 pub returns-in-2 : goal.returns-in-2
 returns-in-2 c =
     let s = c.args.s.now in
-    let from = c.in-Some.ensures ∙ c.from_be_bytes.ensures in
+    let from = c.in_ok-from.ensures ∙ c.from_be_bytes.ensures in
     let to = c.from_be_bytes-to.ensures in
     let amount = c.from_be_bytes-amount.ensures in
     tried s (search rules) (λ i. (c.type_inv.s i).fits) _ (sym c.in-2.is) from to amount _
