@@ -11,12 +11,8 @@ impl Sheet {
     pub fn deal(bytes: &[u8]) -> Result<Sheet, Refusal>
         ensures { answered (λ s. s.dealt) result ≡ deal_of bytes.now }
     {
-        if bytes.len() != SHEET {
-            return Err(Refusal::Sheet);
-        }
-        let mut dealt = [0; SHEET];
-        dealt.copy_from_slice(bytes);
-        Ok(Sheet { dealt })
+        let dealt = bytes.as_array::<SHEET>().ok_or(Refusal::Sheet)?;
+        Ok(Sheet { dealt: *dealt })
     }
 }
 
@@ -24,7 +20,7 @@ impl Coin for Sheet {
     ghost meaning = { sheet_of };
 
     fn toss(&mut self, epoch: u16, round: u8) -> bool {
-        let at = 2 * epoch as usize + round as usize / 8;
+        let at = 2 * usize::from(epoch) + usize::from(round) / 8;
         if at >= SHEET {
             return false;
         }
