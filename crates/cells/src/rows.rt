@@ -10,7 +10,7 @@ pub fn holds<K: Entry>(cell: &Option<K>, x: &K) -> bool
     ensures { result ≡ holds (K.bytes x.now) (option_map K.bytes cell.now) }
 {
     match cell {
-        Some(y) => y.same(x),
+        Some(y) => y == x,
         None => false,
     }
 }

@@ -42,7 +42,7 @@ fn declined(rt: &impl Abort, bytes: &[u8]) -> Result<(), Fail> {
     match Sheet::deal(bytes) {
         Ok(_) => Err(Fail::new("accepted")),
         Err(e) => {
-            assert_eq!(rt; e.number(), 24);
+            assert_eq!(rt; u8::from(e), 24);
             Ok(())
         },
     }

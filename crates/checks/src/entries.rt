@@ -24,14 +24,14 @@ fn is_entry<K: Entry>(rt: &impl Abort, bytes: &[u8]) -> Result<(), Fail> {
     };
     let mut out = [0xff; 32];
     x.write(&mut out);
-    assert_eq!(rt; bytes.len(), K::size());
+    assert_eq!(rt; bytes.len(), K::WIDTH);
     for (i, b) in bytes.iter().enumerate() {
         assert!(rt; i < 32);
         assert_eq!(rt; out[i], *b);
     }
     assert!(rt; bytes.len() < 32);
     assert_eq!(rt; out[bytes.len()], 0xff);
-    assert!(rt; x.same(&x));
+    assert!(rt; x == x);
     Ok(())
 }
 
@@ -95,7 +95,7 @@ fn closings_at_the_edges(rt: HostRuntime) -> Result<(), Fail> {
 fn same<K: Entry>(rt: &impl Abort, a: &[u8], b: &[u8], answer: bool) -> Result<(), Fail> {
     match (K::read(a), K::read(b)) {
         (Some(x), Some(y)) => {
-            assert_eq!(rt; x.same(&y), answer);
+            assert_eq!(rt; x == y, answer);
             Ok(())
         },
         _ => Err(Fail::new("no entry")),

@@ -12,7 +12,7 @@ fn declined(rt: &impl Abort, bytes: &[u8], number: u8) -> Result<(), Fail> {
     match parse::<Reading>(bytes) {
         Ok(_) => Err(Fail::new("accepted")),
         Err(e) => {
-            assert_eq!(rt; e.number(), number);
+            assert_eq!(rt; u8::from(e), number);
             Ok(())
         },
     }
@@ -23,7 +23,7 @@ fn stopped(rt: &impl Abort, frame: &[u8], place: usize, number: u8) -> Result<()
     match next::<Reading>(frame, place) {
         Ok(_) => Err(Fail::new("accepted")),
         Err(e) => {
-            assert_eq!(rt; e.number(), number);
+            assert_eq!(rt; u8::from(e), number);
             Ok(())
         },
     }
@@ -123,9 +123,9 @@ fn copied(bytes: &[u8], out: &mut [u8]) -> Result<usize, u8> {
     match parse::<Reading>(bytes) {
         Ok(s) => match s.write::<Reading>(out) {
             Ok(n) => Ok(n),
-            Err(e) => Err(e.number()),
+            Err(e) => Err(u8::from(e)),
         },
-        Err(e) => Err(e.number()),
+        Err(e) => Err(u8::from(e)),
     }
 }
 
@@ -152,7 +152,7 @@ fn unwritten(rt: &impl Abort, r: Result<usize, Refusal>, number: u8) -> Result<(
     match r {
         Ok(_) => Err(Fail::new("written")),
         Err(e) => {
-            assert_eq!(rt; e.number(), number);
+            assert_eq!(rt; u8::from(e), number);
             Ok(())
         },
     }

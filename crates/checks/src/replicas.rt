@@ -19,7 +19,7 @@ fn reading() -> Result<Reading, Fail> {
 fn answer(n: u8, me: u8, w: u8, tables: &mut Tables<'_, Reading>) -> u8 {
     match Replica::make(n, me, w, tables) {
         Ok(_) => 0,
-        Err(e) => e.number(),
+        Err(e) => u8::from(e),
     }
 }
 
@@ -241,7 +241,7 @@ fn asked(
             Ok(())
         },
         Err(e) => {
-            assert_eq!(rt; e.number() as u16, number);
+            assert_eq!(rt; u16::from(u8::from(e)), number);
             Ok(())
         },
     }

@@ -23,7 +23,7 @@ fn take_in<K: Entry>(
     s: &[u8],
 ) -> Result<(), AllocError>
     requires { start + length s.now < 2 ^ 64 }
-    ensures { OnOk result ((text.new.items, replica.new, store K.bytes tables.new) ≡ taken_of K.width K.valid sender start s.now (text.old.items, replica.old, store K.bytes tables.old)) }
+    ensures { OnOk result ((text.new.items, replica.new, store K.bytes tables.new) ≡ taken_of K.WIDTH K.valid sender start s.now (text.old.items, replica.old, store K.bytes tables.old)) }
 {
     if sender != replica.set.me {
         return hear_frame(replica, tables, text, heap, sender, start, s);
@@ -39,8 +39,8 @@ pub fn replay<K: Entry>(
     heap: Global,
     day: &[u8],
 ) -> Result<Vec<u8>, AllocError>
-    ensures value { IfOk result (λ text. (text.items, replica.new, store K.bytes tables.new) ≡ day_of K.width K.valid replica.old (store K.bytes tables.old) day.now) }
-    ensures heard { Heard K.width K.valid }
+    ensures value { IfOk result (λ text. (text.items, replica.new, store K.bytes tables.new) ≡ day_of K.WIDTH K.valid replica.old (store K.bytes tables.old) day.now) }
+    ensures heard { Heard K.WIDTH K.valid }
 {
     run(replica, tables, heap, day)
 }
@@ -51,7 +51,7 @@ fn run<K: Entry>(
     heap: Global,
     day: &[u8],
 ) -> Result<Vec<u8>, AllocError>
-    ensures { IfOk result (λ text. (text.items, replica.new, store K.bytes tables.new) ≡ day_of K.width K.valid replica.old (store K.bytes tables.old) day.now) }
+    ensures { IfOk result (λ text. (text.items, replica.new, store K.bytes tables.new) ≡ day_of K.WIDTH K.valid replica.old (store K.bytes tables.old) day.now) }
 {
     let mut text = Vec::new(heap);
     let mut place = 0;

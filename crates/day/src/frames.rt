@@ -19,7 +19,7 @@ fn hear_at<K: Entry>(
     place: usize,
     s: &[u8],
 ) -> Result<(), AllocError>
-    ensures { OnOk result ((text.new.items, replica.new, store K.bytes tables.new) ≡ heard_at K.width K.valid sender place s.now (text.old.items, replica.old, store K.bytes tables.old)) }
+    ensures { OnOk result ((text.new.items, replica.new, store K.bytes tables.new) ≡ heard_at K.WIDTH K.valid sender place s.now (text.old.items, replica.old, store K.bytes tables.old)) }
 {
     let answer = hear(replica, tables, sender, s);
     push_answer(text, heap, place, answer)
@@ -36,7 +36,7 @@ pub fn hear_frame<K: Entry>(
     frame: &[u8],
 ) -> Result<(), AllocError>
     requires { start + length frame.now < 2 ^ 64 }
-    ensures { OnOk result ((text.new.items, replica.new, store K.bytes tables.new) ≡ frame_of K.width K.valid sender start frame.now (text.old.items, replica.old, store K.bytes tables.old)) }
+    ensures { OnOk result ((text.new.items, replica.new, store K.bytes tables.new) ≡ frame_of K.WIDTH K.valid sender start frame.now (text.old.items, replica.old, store K.bytes tables.old)) }
 {
     let mut place = 0;
     loop {

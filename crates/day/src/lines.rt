@@ -14,7 +14,7 @@ pub fn push_refused(
 ) -> Result<(), AllocError>
     ensures { OnOk result (text.new.items ≡ text.old.items ++ refused_line (number_of refusal) place) }
 {
-    let number = refusal.number();
+    let number = u8::from(refusal);
     let line = format!(in heap; "refused;{number};{place}\n")?;
     text.extend_from_slice(line.as_bytes())
 }

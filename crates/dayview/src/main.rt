@@ -140,7 +140,7 @@ fn file<K: Entry>(
 }
 
 fn refused(rt: &HostRuntime, refusal: Refusal) -> anyhow::Result<()> {
-    let number = refusal.number();
+    let number = u8::from(refusal);
     println!(rt; "refused;{number}")?;
     Ok(())
 }

@@ -3,7 +3,7 @@ use Rattle.std.specs.Prelude.{◌≡◌, suc, ◌^◌, ◌<◌}
 use Rattle.std.proofs.Common.{ap, arith}
 use mathlib.Core.HLevel.{is_prop→PathP, ¬_prop}
 use Rattle.entry.specs.Orders.{fields_of, order_bytes}
-use Rattle.entry.specs.declared.order.Gift.{Gift}
+use Rattle.entry.specs.declared.gift.Gift.{Gift}
 use Rattle.entry.specs.declared.order.ShareOrder.{ShareOrder}
 use Rattle.entry.specs.declared.order.ShareOrder.TheVariants.{Give, Close}
 use Rattle.entry.specs.Bytes.{pair_unique, word_unique}

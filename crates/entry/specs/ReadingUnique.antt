@@ -2,8 +2,8 @@
 use Rattle.std.specs.Prelude.{◌≡◌, suc, ◌^◌, refl}
 use Rattle.std.proofs.Common.{arith}
 use Rattle.entry.specs.Readings.{quantity_of, reading_bytes}
-use Rattle.entry.specs.declared.reading.Quantity.{Quantity}
-use Rattle.entry.specs.declared.reading.Quantity.TheVariants.{Heat, Water, Carbon}
+use Rattle.entry.specs.declared.quantity.Quantity.{Quantity}
+use Rattle.entry.specs.declared.quantity.Quantity.TheVariants.{Heat, Water, Carbon}
 use Rattle.entry.specs.declared.reading.Reading.{Reading}
 use Rattle.entry.specs.Bytes.{pair_unique, word_unique}
 use Rattle.entry.specs.OneHouse.{house_same, le_path}

@@ -2,8 +2,8 @@
 use Rattle.std.specs.Prelude.{ℕ, Bool, ◌&&◌, List, [], ◌∷◌, length, ◌==◌}
 use Rattle.entry.specs.Numbers.{byte, pair, word, in_pair, in_word, within, are_octets}
 use Rattle.entry.specs.declared.reading.Reading.{Reading}
-use Rattle.entry.specs.declared.reading.Quantity.{Quantity}
-use Rattle.entry.specs.declared.reading.Quantity.TheVariants.{Heat, Water, Carbon}
+use Rattle.entry.specs.declared.quantity.Quantity.{Quantity}
+use Rattle.entry.specs.declared.quantity.Quantity.TheVariants.{Heat, Water, Carbon}
 
 -- the number of a quantity
 abbrev pub quantity_of : Quantity → ℕ

@@ -4,15 +4,19 @@
 // Statements, frames and cells are not here.
 #![tactic(auto)]
 
+mod gift;
 mod house;
 mod houses;
 mod kind;
 mod order;
 mod orders;
+mod quantity;
 mod reading;
 mod readings;
 
+pub use gift::Gift;
 pub use house::House;
 pub use kind::{Entry, reread};
-pub use order::{Gift, ShareOrder};
-pub use reading::{Quantity, Reading, UnknownQuantity};
+pub use order::ShareOrder;
+pub use quantity::{Quantity, UnknownQuantity};
+pub use reading::Reading;

@@ -5,9 +5,10 @@ ghost use Rattle.std.proofs.lemmas.Bool.Decides.{nat_tests};
 ghost use Rattle.entry.specs.Bytes.{octet_at};
 ghost use Rattle.entry.specs.OrderUnique.{order_unique};
 
+use crate::gift::Gift;
 use crate::house::House;
 use crate::kind::Entry;
-use crate::order::{Gift, ShareOrder};
+use crate::order::ShareOrder;
 
 impl ShareOrder {
     // A share given, if the houses are two and there is something to give.

@@ -1,18 +1,7 @@
 ghost use Rattle.std.specs.Prelude.{◌^◌, ◌<◌, ◌≤◌};
 
 use crate::house::House;
-
-// What a meter counts.
-#[derive(Clone, Copy, Debug, PartialEq, Eq)]
-pub enum Quantity {
-    Heat = 1,
-    Water,
-    Carbon,
-}
-
-// A number that no quantity has.
-#[derive(Clone, Copy, Debug, PartialEq, Eq)]
-pub struct UnknownQuantity(pub u8);
+use crate::quantity::Quantity;
 
 // What a house's meter showed for a week.
 #[derive(Clone, Copy, Debug, PartialEq, Eq)]

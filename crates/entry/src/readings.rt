@@ -8,32 +8,8 @@ ghost use Rattle.entry.specs.ReadingUnique.{reading_unique};
 
 use crate::house::House;
 use crate::kind::Entry;
-use crate::reading::{Quantity, Reading, UnknownQuantity};
-
-// Its number in bytes and columns.
-impl From<Quantity> for u8 {
-    ghost from_gives = { λ quantity n. n ≡ quantity_of quantity };
-
-    fn from(quantity: Quantity) -> u8 {
-        quantity as u8
-    }
-}
-
-// The quantity of a number, if there is one.
-impl TryFrom<u8> for Quantity {
-    type Error = UnknownQuantity;
-
-    ghost try_from_gives = { λ n r. MatchResult r (λ q. quantity_of q ≡ n) (λ e. (e.0 ≡ n) × (within 1 3 n ≡ false)) };
-
-    fn try_from(number: u8) -> Result<Quantity, UnknownQuantity> {
-        match number {
-            1 => Ok(Quantity::Heat),
-            2 => Ok(Quantity::Water),
-            3 => Ok(Quantity::Carbon),
-            _ => Err(UnknownQuantity(number)),
-        }
-    }
-}
+use crate::quantity::Quantity;
+use crate::reading::Reading;
 
 impl Entry for Reading {
     const WIDTH: usize = 8;

@@ -18,7 +18,7 @@ fn judge<K: Entry>(
     sender: u8,
     s: &[u8],
 ) -> Result<Claim<K>, Refusal>
-    ensures { answered (claim_of K.bytes) result ≡ judge_of K.width K.valid replica.now (store K.bytes tables.now) sender s.now }
+    ensures { answered (claim_of K.bytes) result ≡ judge_of K.WIDTH K.valid replica.now (store K.bytes tables.now) sender s.now }
 {
     if !tables.fit(replica.set.n, replica.set.w) {
         return Err(Refusal::Table);
@@ -39,8 +39,8 @@ pub fn hear<K: Entry>(
     sender: u8,
     s: &[u8],
 ) -> Result<(), Refusal>
-    ensures value { (numbered result, replica.new, store K.bytes tables.new) ≡ hear_of K.width K.valid replica.old (store K.bytes tables.old) sender s.now }
-    ensures hears { Hears K.width K.valid replica.old (store K.bytes tables.old) sender s.now (numbered result) replica.new (store K.bytes tables.new) }
+    ensures value { (numbered result, replica.new, store K.bytes tables.new) ≡ hear_of K.WIDTH K.valid replica.old (store K.bytes tables.old) sender s.now }
+    ensures hears { Hears K.WIDTH K.valid replica.old (store K.bytes tables.old) sender s.now (numbered result) replica.new (store K.bytes tables.new) }
 {
     take_in(replica, tables, sender, s)
 }
@@ -51,7 +51,7 @@ fn take_in<K: Entry>(
     sender: u8,
     s: &[u8],
 ) -> Result<(), Refusal>
-    ensures { (numbered result, replica.new, store K.bytes tables.new) ≡ hear_of K.width K.valid replica.old (store K.bytes tables.old) sender s.now }
+    ensures { (numbered result, replica.new, store K.bytes tables.new) ≡ hear_of K.WIDTH K.valid replica.old (store K.bytes tables.old) sender s.now }
 {
     let claim = judge(replica, tables, sender, s)?;
     replica.hold(tables, sender, claim);

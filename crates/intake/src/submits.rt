@@ -29,15 +29,15 @@ fn unused<K: Entry>(replica: &Replica, tables: &Tables<'_, K>) -> Option<u8>
 
 // The send that the bytes of an entry become.
 fn offer<K: Entry>(replica: &Replica, tables: &Tables<'_, K>, s: &[u8]) -> Result<Claim<K>, Refusal>
-    ensures { answered (claim_of K.bytes) result ≡ offer_of K.width K.valid replica.now (store K.bytes tables.now) s.now }
+    ensures { answered (claim_of K.bytes) result ≡ offer_of K.WIDTH K.valid replica.now (store K.bytes tables.now) s.now }
 {
     if !tables.fit(replica.set.n, replica.set.w) {
         return Err(Refusal::Table);
     }
-    if s.len() < K::size() {
+    if s.len() < K::WIDTH {
         return Err(Refusal::Short);
     }
-    if s.len() > K::size() {
+    if s.len() > K::WIDTH {
         return Err(Refusal::Long);
     }
     let Some(item) = K::read(s) else {
@@ -58,7 +58,7 @@ pub fn submit<K: Entry>(
     tables: &mut Tables<'_, K>,
     s: &[u8],
 ) -> Result<(), Refusal>
-    ensures value { (numbered result, replica.new, store K.bytes tables.new) ≡ submit_of K.width K.valid replica.old (store K.bytes tables.old) s.now }
+    ensures value { (numbered result, replica.new, store K.bytes tables.new) ≡ submit_of K.WIDTH K.valid replica.old (store K.bytes tables.old) s.now }
     ensures submits { Submits K.valid replica.old (store K.bytes tables.old) s.now (numbered result) replica.new (store K.bytes tables.new) }
 {
     enter(replica, tables, s)
@@ -69,7 +69,7 @@ fn enter<K: Entry>(
     tables: &mut Tables<'_, K>,
     s: &[u8],
 ) -> Result<(), Refusal>
-    ensures { (numbered result, replica.new, store K.bytes tables.new) ≡ submit_of K.width K.valid replica.old (store K.bytes tables.old) s.now }
+    ensures { (numbered result, replica.new, store K.bytes tables.new) ≡ submit_of K.WIDTH K.valid replica.old (store K.bytes tables.old) s.now }
 {
     let claim = offer(replica, tables, s)?;
     replica.hold(tables, replica.set.me, claim);

@@ -12,7 +12,7 @@ use wire::next;
 
 // Lists the statements of a frame.
 pub fn list<K: Entry>(heap: Global, frame: &[u8]) -> Result<Listing, AllocError>
-    ensures { IfOk result (λ l. listed_of l ≡ list_of (kind_of K.width K.valid K.heading K.columns) frame.now) }
+    ensures { IfOk result (λ l. listed_of l ≡ list_of (kind_of K.WIDTH K.valid K.heading K.columns) frame.now) }
 {
     let mut rows = Vec::new(heap);
     let mut count = 0;

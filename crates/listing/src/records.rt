@@ -11,14 +11,14 @@ use std::alloc::{AllocError, Global};
 
 // The record of a frame.
 pub fn record<K: Entry>(heap: Global, frame: &[u8]) -> Result<Vec<u8>, AllocError>
-    ensures value { IfOk result (λ v. v.items ≡ record_of (kind_of K.width K.valid K.heading K.columns) frame.now) }
-    ensures accounts { Accounts (kind_of K.width K.valid K.heading K.columns) frame.now }
+    ensures value { IfOk result (λ v. v.items ≡ record_of (kind_of K.WIDTH K.valid K.heading K.columns) frame.now) }
+    ensures accounts { Accounts (kind_of K.WIDTH K.valid K.heading K.columns) frame.now }
 {
     assembled::<K>(heap, frame)
 }
 
 fn assembled<K: Entry>(heap: Global, frame: &[u8]) -> Result<Vec<u8>, AllocError>
-    ensures { IfOk result (λ v. v.items ≡ record_of (kind_of K.width K.valid K.heading K.columns) frame.now) }
+    ensures { IfOk result (λ v. v.items ≡ record_of (kind_of K.WIDTH K.valid K.heading K.columns) frame.now) }
 {
     let listing = list::<K>(heap, frame)?;
     let mut out = Vec::new(heap);
@@ -65,6 +65,6 @@ fn push_fault(
     let Some((refusal, place)) = fault else {
         return Ok(());
     };
-    push_note(out, heap, b"refused", refusal.number() as usize, place)?;
+    push_note(out, heap, b"refused", usize::from(u8::from(refusal)), place)?;
     Ok(())
 }

@@ -118,7 +118,7 @@ pub fn push_row<K: Entry>(
     place: usize,
     part: &[u8],
 ) -> Result<bool, AllocError>
-    ensures { IfOk result (λ ok. (ok, out.new.items) ≡ added (part_row (kind_of K.width K.valid K.heading K.columns) place part.now) out.old.items) }
+    ensures { IfOk result (λ ok. (ok, out.new.items) ≡ added (part_row (kind_of K.WIDTH K.valid K.heading K.columns) place part.now) out.old.items) }
 {
     let Ok(s) = parse::<K>(part) else {
         return Ok(false);
@@ -151,7 +151,7 @@ fn push_statement<K: Entry>(
     entry: Option<K>,
 ) -> Result<(), AllocError>
     requires { option_map K.bytes entry ≡ item_in (message_of s) }
-    ensures { OnOk result (out.new.items ≡ out.old.items ++ row_of (kind_of K.width K.valid K.heading K.columns) place (message_of s.entry)) }
+    ensures { OnOk result (out.new.items ≡ out.old.items ++ row_of (kind_of K.WIDTH K.valid K.heading K.columns) place (message_of s.entry)) }
 {
     push_number(out, heap, place)?;
     push_word(out, &[s.letter().byte()])?;

@@ -1,14 +1,14 @@
 -- The book: the pages up to the first empty cell.
-use Rattle.std.proofs.Common.{◌≡◌, ℕ, zero, suc, ◌+◌, ◌<◌, ◌≤◌, Bool, true, false, ◌||◌, ◌⊎◌, List, [], ◌∷◌, length, get_or, take, drop, Some, None, MatchBool, Option, sym, refl, ap, ◌∙◌, inl, inr, add-one, arith}
+use Rattle.std.proofs.lemmas.Bool.Decides.{same_from_decides}
+use Rattle.std.proofs.Common.{◌≡◌, ℕ, zero, suc, ◌+◌, ◌<◌, ◌≤◌, Bool, true, false, ◌||◌, ◌⊎◌, List, [], ◌∷◌, length, get_or, take, drop, Some, None, Decides, Option, sym, refl, ap, ◌∙◌, inl, inr, add-one, arith}
 use Rattle.std.specs.List.{slice_get}
 use Rattle.std.proofs.lemmas.Bool.{cases_lt}
 use Rattle.std.proofs.lemmas.List.{get_or-take, get_or_past, length-take, drop_all}
 use Rattle.theory.specs.Statement.{decided}
 use Rattle.theory.specs.Book.{Page, stands_in_book}
-use Rattle.theory.proofs.Memory.{decided_yes}
 use Rattle.replica.specs.declared.state.Replica.{Replica}
 use Rattle.replica.specs.Store.{Store, fits}
-use Rattle.replica.specs.View.{bytes_same, same_bytes, leading, book_of}
+use Rattle.replica.specs.View.{same_bytes, leading, book_of}
 use Rattle.replica.specs.Paging.{found, page_of, Reads}
 use Rattle.replica.proofs.Answering.{page_found, page_past}
 
@@ -40,13 +40,12 @@ lead_end [] = refl
 lead_end (None ∷ ps) = refl
 lead_end (Some q ∷ ps) = lead_end ps
 
-told_same : (r : Bool) (a b : List ℕ) → MatchBool r (a ≡ b) (a ≡ b → ⊥) → same_bytes a b ≡ r
-told_same true a b h = decided_yes (bytes_same a b) h
-told_same false a b h = at (bytes_same a b)
-  where
-    at : (d : Dec (a ≡ b)) → decided d ≡ false
-    at (yes e) = absurd (h e)
-    at (no n) = refl
+decided_decides : {A : Type 0} (d : Dec A) → Decides (decided d) A
+decided_decides (yes a) = ((λ _. a), (λ _. refl))
+decided_decides (no n) = ((λ e. absurd (let z : ◌≡◌ {A = Bool} true false = sym e in cc)), (λ a. absurd (n a)))
+
+told_same : (r : Bool) (a b : List ℕ) → Decides r (a ≡ b) → same_bytes a b ≡ r
+told_same r a b d = same_from_decides (same_bytes a b) r (decided_decides _) d
 
 -- whether an entry is on the pages from a place on
 module _ (ps : List (Option (Page (List ℕ)))) (count i : ℕ) (x : List ℕ) where
@@ -56,7 +55,7 @@ module _ (ps : List (Option (Page (List ℕ)))) (count i : ℕ) (x : List ℕ) w
   pub booked_none : i < count → get_or ps i None ≡ None → left i ≡ false
   booked_none l e = ap (λ b. stands_in_book same_bytes b x) (lead_none (take count ps) i (get_or-take count ps i None l ∙ e))
 
-  pub booked_some : (p : Page (List ℕ)) (r : Bool) → i < count → get_or ps i None ≡ Some p → MatchBool r (p.entry ≡ x) (p.entry ≡ x → ⊥) → left i ≡ (r || left (i + 1))
+  pub booked_some : (p : Page (List ℕ)) (r : Bool) → i < count → get_or ps i None ≡ Some p → Decides r (p.entry ≡ x) → left i ≡ (r || left (i + 1))
   booked_some p r l e h = ap (λ b. stands_in_book same_bytes b x) (lead_some (take count ps) i p (get_or-take count ps i None l ∙ e)) ∙ ap (λ b. b || left (i + 1)) (told_same r p.entry x h)
 
   pub booked_end : count ≤ i → left i ≡ false

@@ -35,7 +35,7 @@ pub fn in_book<K: Entry>(pages: &[Option<Page<K>>], count: usize, x: &K) -> bool
         let Some(page) = held(pages, i) else {
             return false;
         };
-        if page.item.same(x) {
+        if page.item == *x {
             return true;
         }
     }

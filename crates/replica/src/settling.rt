@@ -18,7 +18,7 @@ pub fn settle_entry<K: Entry>(held: Option<K>, item: K) -> Result<(), Refusal>
 {
     match held {
         None => Ok(()),
-        Some(old) => taken(old.same(&item)),
+        Some(old) => taken(old == item),
     }
 }
 

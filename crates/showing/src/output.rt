@@ -55,7 +55,7 @@ pub fn show<K: Entry>(
     out: &mut [u8],
 ) -> Result<Shown, Refusal>
     ensures value { (answered pair_of result, out.new) ≡ show_of replica.now (store K.bytes tables.now) number out.old }
-    ensures law { Shows K.width replica.now (store K.bytes tables.now) }
+    ensures law { Shows K.WIDTH replica.now (store K.bytes tables.now) }
 {
     if !tables.fit(replica.set.n, replica.set.w) {
         return Err(Refusal::Table);

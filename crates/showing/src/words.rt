@@ -49,8 +49,8 @@ fn item_in<K: Entry>(claim: &Claim<K>) -> Option<K>
 
 // Writes the claim's entry, if it has one, at the front of `out`.
 fn put_item<K: Entry>(claim: &Claim<K>, out: &mut [u8])
-    requires { K.width ≤ length out.old }
-    ensures { (x : List ℕ) → entry_stated (claim_of K.bytes claim.now) ≡ Some x → take K.width out.new ≡ x }
+    requires { K.WIDTH ≤ length out.old }
+    ensures { (x : List ℕ) → entry_stated (claim_of K.bytes claim.now) ≡ Some x → take K.WIDTH out.new ≡ x }
 {
     match item_in(claim) {
         Some(item) => item.write(out),
@@ -104,10 +104,10 @@ fn worded<'a, K: Entry>(claim: &Claim<K>, item: &'a [u8]) -> Statement<'a>
 
 // Writes a claim's statement at the front of `out`, and answers how many bytes it has.
 pub fn write<K: Entry>(claim: &Claim<K>, out: &mut [u8]) -> Result<usize, Refusal>
-    requires { unfit K.width (spoken (claim_of K.bytes claim.now)) ≡ None }
+    requires { unfit K.WIDTH (spoken (claim_of K.bytes claim.now)) ≡ None }
     ensures { (numbered result, out.new) ≡ placed None (spelled (claim_of K.bytes claim.now)) out.old }
 {
     let mut item = [0; 32];
     put_item(claim, &mut item);
-    worded(claim, &item[0..K::size()]).write::<K>(out)
+    worded(claim, &item[0..K::WIDTH]).write::<K>(out)
 }

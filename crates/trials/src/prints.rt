@@ -57,7 +57,7 @@ fn printed(held: usize, count: u16, out: &mut [u8]) -> Result<usize, u8> {
     };
     match print(&replica, &tables, out) {
         Ok(len) => Ok(len),
-        Err(e) => Err(e.number()),
+        Err(e) => Err(u8::from(e)),
     }
 }
 
@@ -153,7 +153,7 @@ fn lent(rt: &impl Abort, lengths: [usize; 5], number: u8) -> Result<(), Fail> {
     let mut out = [7; 20];
     match print(&replica, &tables, &mut out) {
         Ok(_) => return Err(Fail::new("accepted")),
-        Err(e) => assert_eq!(rt; e.number(), number),
+        Err(e) => assert_eq!(rt; u8::from(e), number),
     }
     stands(rt, &out, &[])
 }

@@ -23,7 +23,7 @@ fn makes(rt: &impl Abort, n: u8, me: u8, w: u8, lent: [usize; 5], number: u8) ->
     let mut tables = cells.tables();
     let answer = match Replica::make(n, me, w, &mut tables) {
         Ok(_) => 0,
-        Err(e) => e.number(),
+        Err(e) => u8::from(e),
     };
     assert_eq!(rt; answer, number, "{n} {me} {w} {lent:?}");
     if number == 0 {
@@ -136,7 +136,7 @@ fn asked(
     let tables = cells.tables();
     let got = match replica.page(&tables, place) {
         Ok(page) => page.epoch,
-        Err(e) => e.number() as u16,
+        Err(e) => u16::from(u8::from(e)),
     };
     assert_eq!(rt; got, answer, "{n} {w} {lent:?} {count} {place}");
     Ok(())

@@ -144,7 +144,7 @@ fn refused(
 ) -> Result<(), Fail> {
     match answer {
         Ok(_) => return Err(Fail::new("accepted")),
-        Err(e) => assert_eq!(rt; e.number(), number),
+        Err(e) => assert_eq!(rt; u8::from(e), number),
     }
     for b in out {
         assert_eq!(rt; *b, 0xee);
@@ -254,6 +254,6 @@ fn short_tables(rt: HostRuntime) -> Result<(), Fail> {
 fn told(answer: Result<Shown, Refusal>) -> (u8, usize, usize) {
     match answer {
         Ok(shown) => (0, shown.bytes, shown.next),
-        Err(e) => (e.number(), 0, 0),
+        Err(e) => (u8::from(e), 0, 0),
     }
 }

@@ -191,7 +191,7 @@ pub fn begin<K: Entry>(n: u8, me: u8, w: u8, cells: &mut Cells<K>) -> Result<Rep
     let mut tables = cells.tables();
     match Replica::make(n, me, w, &mut tables) {
         Ok(replica) => Ok(replica),
-        Err(e) => Err(Fail::new(e.number())),
+        Err(e) => Err(Fail::new(u8::from(e))),
     }
 }
 
@@ -213,7 +213,7 @@ fn alike_entries<K: Entry>(a: &[Option<K>], b: &[Option<K>]) -> bool {
     for (x, y) in a.iter().zip(b.iter()) {
         let same = match x {
             Some(x) => match y {
-                Some(y) => x.same(y),
+                Some(y) => x == y,
                 None => false,
             },
             None => y.is_none(),
@@ -230,7 +230,7 @@ fn alike_pages<K: Entry>(a: &[Option<Page<K>>], b: &[Option<Page<K>>]) -> bool {
         let same = match x {
             Some(x) => match y {
                 Some(y) => {
-                    x.item.same(&y.item)
+                    x.item == y.item
                         && x.epoch == y.epoch
                         && x.queue == y.queue
                         && x.slot == y.slot
@@ -284,7 +284,7 @@ pub fn alike(a: &Replica, b: &Replica) -> bool {
 fn numbered(r: Result<(), Refusal>) -> u8 {
     match r {
         Ok(()) => 0,
-        Err(e) => e.number(),
+        Err(e) => u8::from(e),
     }
 }
 

@@ -1,5 +1,7 @@
 -- The letter that a statement begins with, and how long the statement is.
-use Rattle.std.specs.Prelude.{ℕ, ◌+◌, cond, Some, None, Option, ◌==◌}
+use Rattle.std.specs.Prelude.{ℕ, ◌+◌, cond, Some, None, Ok, Err, Option, Result, ◌==◌}
+use Rattle.common.specs.declared.refusal.Refusal.{Refusal}
+use Rattle.common.specs.declared.refusal.Refusal.TheVariants as refusals
 use Rattle.wire.specs.declared.letter.Letter.{Letter}
 use Rattle.wire.specs.declared.letter.Letter.TheVariants.{Send, Echo, Ready, Have, Value, Seen, Confirm, Finish}
 
@@ -24,6 +26,11 @@ letter_of b =
     (cond (b == byte_of Seen) (Some Seen)
     (cond (b == byte_of Confirm) (Some Confirm)
     (cond (b == byte_of Finish) (Some Finish) None)))))))
+
+-- the letter, or the refusal where there is none
+abbrev pub known : Option Letter → Result Letter Refusal
+known None = Err refusals.Letter
+known (Some l) = Ok l
 
 -- the length of a statement whose entry has w bytes
 abbrev pub length_of : ℕ → Letter → ℕ

@@ -9,8 +9,8 @@ use entry::Entry;
 
 // The part of a frame, from a place on, that is its next statement, or none at the frame's end.
 pub fn next<K: Entry>(frame: &[u8], place: usize) -> Result<Option<&[u8]>, Refusal>
-    ensures value { answered (option_map (λ x. x.now)) result ≡ next_of K.width frame.now place }
-    ensures walks { Walks K.width frame.now }
+    ensures value { answered (option_map (λ x. x.now)) result ≡ next_of K.WIDTH frame.now place }
+    ensures walks { Walks K.WIDTH frame.now }
 {
     if place > frame.len() {
         return Err(Refusal::Place);
@@ -18,9 +18,7 @@ pub fn next<K: Entry>(frame: &[u8], place: usize) -> Result<Option<&[u8]>, Refus
     if place == frame.len() {
         return Ok(None);
     }
-    let Some(letter) = Letter::of(frame[place]) else {
-        return Err(Refusal::Letter);
-    };
+    let letter = Letter::try_from(frame[place])?;
     let n = letter.length::<K>();
     if n > frame.len() - place {
         return Err(Refusal::Short);

@@ -1,5 +1,5 @@
 // The eight things that a replica states.
-#[derive(Clone, Copy)]
+#[derive(Clone, Copy, Debug, PartialEq, Eq)]
 pub enum Letter {
     Send,
     Echo,

@@ -1,32 +1,37 @@
 ghost use Rattle.std.specs.Prelude.{◌≡◌};
-ghost use Rattle.wire.specs.Letters.{byte_of, letter_of, length_of};
+ghost use Rattle.wire.specs.Letters.{byte_of, letter_of, known, length_of};
 
 use crate::letter::Letter;
+use common::Refusal;
 use entry::Entry;
 
-impl Letter {
-    // The letter that a byte is, if it is one.
-    pub fn of(byte: u8) -> Option<Letter>
-        ensures { result ≡ letter_of byte }
-    {
+// The letter that a byte is, if it is one.
+impl TryFrom<u8> for Letter {
+    type Error = Refusal;
+
+    ghost try_from_gives = { λ byte r. r ≡ known (letter_of byte) };
+
+    fn try_from(byte: u8) -> Result<Letter, Refusal> {
         match byte as char {
-            'S' => Some(Letter::Send),
-            'E' => Some(Letter::Echo),
-            'R' => Some(Letter::Ready),
-            'H' => Some(Letter::Have),
-            'V' => Some(Letter::Value),
-            'A' => Some(Letter::Seen),
-            'C' => Some(Letter::Confirm),
-            'F' => Some(Letter::Finish),
-            _ => None,
+            'S' => Ok(Letter::Send),
+            'E' => Ok(Letter::Echo),
+            'R' => Ok(Letter::Ready),
+            'H' => Ok(Letter::Have),
+            'V' => Ok(Letter::Value),
+            'A' => Ok(Letter::Seen),
+            'C' => Ok(Letter::Confirm),
+            'F' => Ok(Letter::Finish),
+            _ => Err(Refusal::Letter),
         }
     }
+}
 
-    // The byte that it is.
-    pub fn byte(self) -> u8
-        ensures { result ≡ byte_of self }
-    {
-        match self {
+// The byte that it is.
+impl From<Letter> for u8 {
+    ghost from_gives = { λ letter byte. byte ≡ byte_of letter };
+
+    fn from(letter: Letter) -> u8 {
+        match letter {
             Letter::Send => b'S',
             Letter::Echo => b'E',
             Letter::Ready => b'R',
@@ -37,14 +42,16 @@ impl Letter {
             Letter::Finish => b'F',
         }
     }
+}
 
+impl Letter {
     // How many bytes a statement that begins with it has.
     pub fn length<K: Entry>(self) -> usize
-        ensures { result ≡ length_of K.width self }
+        ensures { result ≡ length_of K.WIDTH self }
     {
         match self {
-            Letter::Send => 2 + K::size(),
-            Letter::Echo | Letter::Ready | Letter::Have => 3 + K::size(),
+            Letter::Send => 2 + K::WIDTH,
+            Letter::Echo | Letter::Ready | Letter::Have => 3 + K::WIDTH,
             Letter::Value | Letter::Seen | Letter::Confirm => 4,
             Letter::Finish => 3,
         }

@@ -11,15 +11,13 @@ use entry::Entry;
 
 // The one statement that the bytes are; its entry stays a part of them.
 pub fn parse<K: Entry>(s: &[u8]) -> Result<Statement<'_>, Refusal>
-    ensures value { answered message_of result ≡ parse_of K.width s.now }
-    ensures back { IfOk result (λ x. (out : List ℕ) → write_of K.width (message_of x) out ≡ placed None s.now out) }
+    ensures value { answered message_of result ≡ parse_of K.WIDTH s.now }
+    ensures back { IfOk result (λ x. (out : List ℕ) → write_of K.WIDTH (message_of x) out ≡ placed None s.now out) }
 {
     if s.is_empty() {
         return Err(Refusal::Short);
     }
-    let Some(letter) = Letter::of(s[0]) else {
-        return Err(Refusal::Letter);
-    };
+    let letter = Letter::try_from(s[0])?;
     let n = letter.length::<K>();
     if s.len() < n {
         return Err(Refusal::Short);
@@ -31,7 +29,7 @@ pub fn parse<K: Entry>(s: &[u8]) -> Result<Statement<'_>, Refusal>
 }
 
 fn operands<K: Entry>(letter: Letter, s: &[u8]) -> Statement<'_>
-    requires { length_of K.width letter ≤ length s.now }
+    requires { length_of K.WIDTH letter ≤ length s.now }
     ensures { message_of result ≡ read_of letter s.now }
 {
     match letter {

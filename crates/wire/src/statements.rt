@@ -27,14 +27,11 @@ impl<'a> Statement<'a> {
         ensures { option_map (λ x. x.now) result ≡ item_in (message_of self.entry) }
     {
         match self {
-            Statement::Send { item, .. } => Some(item),
-            Statement::Echo { item, .. } => Some(item),
-            Statement::Ready { item, .. } => Some(item),
-            Statement::Have { item, .. } => Some(item),
-            Statement::Value { .. } => None,
-            Statement::Seen { .. } => None,
-            Statement::Confirm { .. } => None,
-            Statement::Finish { .. } => None,
+            Statement::Send { item, .. }
+            | Statement::Echo { item, .. }
+            | Statement::Ready { item, .. }
+            | Statement::Have { item, .. } => Some(item),
+            _ => None,
         }
     }
 }

@@ -10,40 +10,40 @@ use entry::Entry;
 impl Statement<'_> {
     // Writes the statement at the front of `out`, and answers how many bytes it has.
     pub fn write<K: Entry>(self, out: &mut [u8]) -> Result<usize, Refusal>
-        ensures value { (numbered result, out.new) ≡ write_of K.width (message_of self.entry) out.old }
-        ensures back { IfOk result (λ n. parse_of K.width (take n out.new) ≡ Ok (message_of self.entry)) }
+        ensures value { (numbered result, out.new) ≡ write_of K.WIDTH (message_of self.entry) out.old }
+        ensures back { IfOk result (λ n. parse_of K.WIDTH (take n out.new) ≡ Ok (message_of self.entry)) }
     {
         self.put::<K>(out)
     }
 
     fn put<K: Entry>(self, out: &mut [u8]) -> Result<usize, Refusal>
-        ensures { (numbered result, out.new) ≡ write_of K.width (message_of self.entry) out.old }
+        ensures { (numbered result, out.new) ≡ write_of K.WIDTH (message_of self.entry) out.old }
     {
+        let letter = u8::from(self.letter());
         match self {
-            Statement::Send { slot, item } => put_item::<K>(&[b'S', slot], item, out),
-            Statement::Echo { queue, slot, item } => put_item::<K>(&[b'E', queue, slot], item, out),
-            Statement::Ready { queue, slot, item } => put_item::<K>(
-                &[b'R', queue, slot],
-                item,
-                out,
-            ),
-            Statement::Have { queue, slot, item } => put_item::<K>(&[b'H', queue, slot], item, out),
-            Statement::Value { epoch, round, bit } => put_vote(b'V', epoch, &[round, bit], out),
-            Statement::Seen { epoch, round, bit } => put_vote(b'A', epoch, &[round, bit], out),
-            Statement::Confirm { epoch, round, set } => put_vote(b'C', epoch, &[round, set], out),
-            Statement::Finish { epoch, bit } => put_vote(b'F', epoch, &[bit], out),
+            Statement::Send { slot, item } => put_item::<K>(&[letter, slot], item, out),
+            Statement::Echo { queue, slot, item }
+            | Statement::Ready { queue, slot, item }
+            | Statement::Have { queue, slot, item } => {
+                put_item::<K>(&[letter, queue, slot], item, out)
+            }
+            Statement::Value { epoch, round, bit } | Statement::Seen { epoch, round, bit } => {
+                put_vote(letter, epoch, &[round, bit], out)
+            }
+            Statement::Confirm { epoch, round, set } => put_vote(letter, epoch, &[round, set], out),
+            Statement::Finish { epoch, bit } => put_vote(letter, epoch, &[bit], out),
         }
     }
 }
 
 // An entry behind the letter and operands, if it has the kind's width.
 fn put_item<K: Entry>(head: &[u8], item: &[u8], out: &mut [u8]) -> Result<usize, Refusal>
-    ensures { (numbered result, out.new) ≡ placed (misfit K.width item.now) (head.now ++ item.now) out.old }
+    ensures { (numbered result, out.new) ≡ placed (misfit K.WIDTH item.now) (head.now ++ item.now) out.old }
 {
-    if item.len() < K::size() {
+    if item.len() < K::WIDTH {
         return Err(Refusal::Short);
     }
-    if item.len() > K::size() {
+    if item.len() > K::WIDTH {
         return Err(Refusal::Long);
     }
     put_both(head, item, out)

@@ -10,7 +10,7 @@ returns-in-End g c =
     let l = c.loop-text in
     let r : Run = (vec_items l.text, l.replica, store k.bytes l.tables) in
     let is : cut_at c.args.day.now l.place ≡ end = sym c.part_at.ensures ∙ ap cut_of c.in-End.is in
-    over k.width k.valid c.args.day.now l.place l.invariant.0 r _ l.invariant.1 is
+    over k.WIDTH k.valid c.args.day.now l.place l.invariant.0 r _ l.invariant.1 is
 
 pub returns-in-Torn : goal.returns-in-Torn
 returns-in-Torn g c =
@@ -19,7 +19,7 @@ returns-in-Torn g c =
     let r : Run = (vec_items l.text, l.replica, store k.bytes l.tables) in
     let is : cut_at c.args.day.now l.place ≡ torn = sym c.part_at.ensures ∙ ap cut_of c.in-Torn.is in
     ap (λ text. (text, l.replica, store k.bytes l.tables)) c.in_ok-push_torn-in-Torn.ensures
-    ∙ tears k.width k.valid c.args.day.now l.place l.invariant.0 r _ l.invariant.1 is
+    ∙ tears k.WIDTH k.valid c.args.day.now l.place l.invariant.0 r _ l.invariant.1 is
 
 pub loop-text-preserved : goal.loop-text-preserved
 loop-text-preserved g c =
@@ -31,5 +31,5 @@ loop-text-preserved g c =
     let r : Run = (vec_items l.text, l.replica, store k.bytes l.tables) in
     let is : cut_at d l.place ≡ whole j s = sym c.part_at.ensures ∙ ap cut_of c.in-Whole.is in (
       lies d l.place j s is,
-      passes k.width k.valid d l.place l.invariant.0 r _ l.invariant.1 j s _ is c.in_ok-take_in-in-Whole.ensures,
+      passes k.WIDTH k.valid d l.place l.invariant.0 r _ l.invariant.1 j s _ is c.in_ok-take_in-in-Whole.ensures,
     )

@@ -8,9 +8,9 @@ abbrev pub invariant-loop-found : goal.invariant-loop-found
 invariant-loop-found g l =
     let e = g.K.Entry in
     (l.place ≤ length l.frame)
-    × Left e.width e.valid l.sender l.start l.frame l.place
+    × Left e.WIDTH e.valid l.sender l.start l.frame l.place
     (vec_items l.text, l.replica, store e.bytes l.tables)
-    (frame_of e.width e.valid l.sender l.start l.frame (vec_items l.initial.text, l.initial.replica, store e.bytes l.initial.tables))
+    (frame_of e.WIDTH e.valid l.sender l.start l.frame (vec_items l.initial.text, l.initial.replica, store e.bytes l.initial.tables))
 
 abbrev pub decreases-loop-found : goal.decreases-loop-found
 decreases-loop-found g l = length l.frame - l.place

@@ -14,5 +14,5 @@ returns g c =
     let s = c.args.s.now in
     record {
       value = c.take_in.ensures;
-      hears = subst (λ (p : Result (Unit {0}) ℕ × Replica × Store). Hears k.width k.valid m t j s p.0 p.1 p.2) (sym c.take_in.ensures) (hears_law k.width k.valid m t j s);
+      hears = subst (λ (p : Result (Unit {0}) ℕ × Replica × Store). Hears k.WIDTH k.valid m t j s p.0 p.1 p.2) (sym c.take_in.ensures) (hears_law k.WIDTH k.valid m t j s);
     }

@@ -9,5 +9,5 @@ pub hold-requires : goal.hold-requires
 hold-requires g c =
     let k = g.K.Entry in
     let t = store k.bytes c.args.tables.now in
-    let good = judged k.width k.valid c.args.replica.now t c.args.sender c.args.s.now (claim_of k.bytes c.in_ok-claim.claim) (sym c.in_ok-claim.ensures) in
+    let good = judged k.WIDTH k.valid c.args.replica.now t c.args.sender c.args.s.now (claim_of k.bytes c.in_ok-claim.claim) (sym c.in_ok-claim.ensures) in
     record { lent = good.lent; from = ltb-true _ _ good.from; ranged = good.ranged }

@@ -13,9 +13,9 @@ hold-requires g c =
     let m = c.args.replica.now in
     let t = store k.bytes c.args.tables.now in
     let s = c.args.s.now in
-    let f = offers k.width k.valid m t s (claim_of k.bytes c.in_ok-claim.claim) (sym c.in_ok-claim.ensures) in
+    let f = offers k.WIDTH k.valid m t s (claim_of k.bytes c.in_ok-claim.claim) (sym c.in_ok-claim.ensures) in
     record {
       lent = f.1.lent;
       from = m.set.own;
-      ranged = subst (λ (x : Stmt (List ℕ)). ranged (plan m) (box m t) x ≡ true) f.2 (send_ranged k.width k.valid m t s f.0 f.1);
+      ranged = subst (λ (x : Stmt (List ℕ)). ranged (plan m) (box m t) x ≡ true) f.2 (send_ranged k.WIDTH k.valid m t s f.0 f.1);
     }

@@ -13,5 +13,5 @@ returns g c =
     let s = c.args.s.now in
     record {
       value = c.enter.ensures;
-      submits = subst (λ (p : Result (Unit {0}) ℕ × Replica × Store). Submits k.valid m t s p.0 p.1 p.2) (sym c.enter.ensures) (submits_law k.width k.valid m t s g.met.K.Entry.wide);
+      submits = subst (λ (p : Result (Unit {0}) ℕ × Replica × Store). Submits k.valid m t s p.0 p.1 p.2) (sym c.enter.ensures) (submits_law k.WIDTH k.valid m t s g.met.K.Entry.wide);
     }

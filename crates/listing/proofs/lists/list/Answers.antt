@@ -10,7 +10,7 @@ use Rattle.listing.proofs.lists.list.Given as given
 use Rattle.listing.proofs.lists.list.Goals as goal
 
 abbrev kind : given.Over → Kind
-kind g = let e = g.K.Entry in kind_of e.width e.valid e.heading e.columns
+kind g = let e = g.K.Entry in kind_of e.WIDTH e.valid e.heading e.columns
 
 pub loop-found-init : goal.loop-found-init
 loop-found-init g c =
@@ -43,7 +43,7 @@ loop-found-smaller g c =
     let frame = c.args.frame.now in
     let place = c.loop-found.place in
     let t = c.in-Some.part.now in
-    let next : next_of g.K.Entry.width frame place ≡ Ok (Some t) = sym c.in-Ok.ensures.value ∙ ap (λ o. Ok (option_map (λ x. x.now) o)) c.in-Some.is in
+    let next : next_of g.K.Entry.WIDTH frame place ≡ Ok (Some t) = sym c.in-Ok.ensures.value ∙ ap (λ o. Ok (option_map (λ x. x.now) o)) c.in-Some.is in
     omega (arith, within (kind g) frame place c.loop-found.invariant.0 t next, (piece (kind g) frame place c.loop-found.invariant.0 t next).some)
 
 pub loop-found-preserved : goal.loop-found-preserved
@@ -51,7 +51,7 @@ loop-found-preserved g c =
     let frame = c.args.frame.now in
     let place = c.loop-found.place in
     let t = c.in-Some.part.now in
-    let next : next_of g.K.Entry.width frame place ≡ Ok (Some t) = sym c.in-Ok.ensures.value ∙ ap (λ o. Ok (option_map (λ x. x.now) o)) c.in-Some.is in
+    let next : next_of g.K.Entry.WIDTH frame place ≡ Ok (Some t) = sym c.in-Ok.ensures.value ∙ ap (λ o. Ok (option_map (λ x. x.now) o)) c.in-Some.is in
     let one = one_row (part_row (kind g) place t) _ _ (vec_items c.loop-found.rows) c.in_ok-push_row.ensures c.if-not-branch.false in (
       within (kind g) frame place c.loop-found.invariant.0 t next,
       omega (arith, c.loop-found.invariant.1, (piece (kind g) frame place c.loop-found.invariant.0 t next).some),

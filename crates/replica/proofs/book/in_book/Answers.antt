@@ -1,4 +1,4 @@
-use Rattle.std.proofs.Common.{true, false, map, sym, ◌∙◌, arith}
+use Rattle.std.proofs.Common.{◌≡◌, Bool, true, false, Decides, map, sym, subst, ◌∙◌, arith}
 use Rattle.std.specs.Option.{option_map}
 use Rattle.replica.specs.Store.{paged}
 use Rattle.replica.proofs.Leading.{booked_none, booked_some, booked_end}
@@ -10,17 +10,17 @@ returns-in_default g c =
     let ps = map (option_map (paged b)) c.args.pages.now in
     sym (booked_none ps c.args.count c.loop-i.i (b c.args.x.now) c.loop-i-test.true (sym c.in_default.ensures)) ∙ c.loop-i.invariant
 
-pub returns-then-same : goal.returns-then-same
-returns-then-same g c =
+pub returns-then-eq : goal.returns-then-eq
+returns-then-eq g c =
     let b = g.K.Entry.bytes in
     let ps = map (option_map (paged b)) c.args.pages.now in
-    sym (booked_some ps c.args.count c.loop-i.i (b c.args.x.now) (paged b c.in-Some.page) true c.loop-i-test.true (sym c.in-Some.ensures) c.if-same.ensures) ∙ c.loop-i.invariant
+    sym (booked_some ps c.args.count c.loop-i.i (b c.args.x.now) (paged b c.in-Some.page) true c.loop-i-test.true (sym c.in-Some.ensures) (subst (λ (r : Bool). Decides r (b c.in-Some.page.item ≡ b c.args.x.now)) (sym c.if-eq.ensures) (g.met.K.Entry.same c.in-Some.page.item c.args.x.now))) ∙ c.loop-i.invariant
 
 pub loop-i-preserved : goal.loop-i-preserved
 loop-i-preserved g c =
     let b = g.K.Entry.bytes in
     let ps = map (option_map (paged b)) c.args.pages.now in
-    sym (booked_some ps c.args.count c.loop-i.i (b c.args.x.now) (paged b c.in-Some.page) false c.loop-i-test.true (sym c.in-Some.ensures) c.if-same.ensures) ∙ c.loop-i.invariant
+    sym (booked_some ps c.args.count c.loop-i.i (b c.args.x.now) (paged b c.in-Some.page) false c.loop-i-test.true (sym c.in-Some.ensures) (subst (λ (r : Bool). Decides r (b c.in-Some.page.item ≡ b c.args.x.now)) (sym c.if-eq.ensures) (g.met.K.Entry.same c.in-Some.page.item c.args.x.now))) ∙ c.loop-i.invariant
 
 pub returns : goal.returns
 returns g c =

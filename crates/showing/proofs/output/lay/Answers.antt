@@ -14,7 +14,7 @@ use Rattle.showing.proofs.output.lay.Goals as goal
 pub write-requires : goal.write-requires
 write-requires g c =
     let b = g.K.Entry.bytes in
-    let w = g.K.Entry.width in
+    let w = g.K.Entry.WIDTH in
     let law = g.met.K.Entry in
     let wide = store_wide b w c.args.tables.now (λ k. law.wide (b k) (law.sound k)) in
     place_fits w c.args.replica.now (store b c.args.tables.now) c.loop-i.i (claim_of b c.in-Some.claim) wide c.in-Some.ensures

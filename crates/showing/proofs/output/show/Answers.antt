@@ -9,11 +9,11 @@ use Rattle.showing.proofs.Promising.{shows}
 use Rattle.showing.proofs.output.show.Given as given
 use Rattle.showing.proofs.output.show.Goals as goal
 
-law : (g : given.Over) (m : Replica) (tables : Tables g.row.K.Denot) → Shows g.K.Entry.width m (store g.K.Entry.bytes tables)
+law : (g : given.Over) (m : Replica) (tables : Tables g.row.K.Denot) → Shows g.K.Entry.WIDTH m (store g.K.Entry.bytes tables)
 law g m tables =
     let b = g.K.Entry.bytes in
     let met = g.met.K.Entry in
-    shows g.K.Entry.width m (store b tables) (store_wide b g.K.Entry.width tables (λ k. met.wide (b k) (met.sound k)))
+    shows g.K.Entry.WIDTH m (store b tables) (store_wide b g.K.Entry.WIDTH tables (λ k. met.wide (b k) (met.sound k)))
 
 pub returns-then-not-fit : goal.returns-then-not-fit
 returns-then-not-fit g c =

@@ -6,7 +6,7 @@ use Rattle.wire.proofs.parser.parse.Goals as goal
 
 pub returns : goal.returns
 returns g c =
-    let w = g.K.Entry.width in
+    let w = g.K.Entry.WIDTH in
     let s = c.args.s.now in
     let m = message_of c.operands.result in
     let is : parse_of w s ≡ Ok m = search rules in

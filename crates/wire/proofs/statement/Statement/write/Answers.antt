@@ -7,7 +7,7 @@ use Rattle.wire.proofs.statement.Statement.write.Goals as goal
 
 pub returns : goal.returns
 returns g c =
-    let w = g.K.Entry.width in
+    let w = g.K.Entry.WIDTH in
     let m = message_of c.args.self in
     record {
       value = c.put.ensures;
