@@ -8,7 +8,7 @@ use Rattle.showing.specs.Boards.{places, filled}
 use Rattle.showing.specs.Spoken.{spelled}
 use Rattle.showing.proofs.Skipping.{filled_next}
 use Rattle.showing.proofs.Standing.{store_wide, place_fits}
-use Rattle.showing.proofs.Laying.{Laid, laid_more, laid_stop, laid_first, laid_end}
+use Rattle.showing.proofs.Laying.{Laid, laid_start, laid_more, laid_stop, laid_first, laid_end}
 use Rattle.showing.proofs.output.lay.Goals as goal
 
 pub write-requires : goal.write-requires
@@ -33,6 +33,9 @@ renamed :
     → Laid was all rest number at next out → Laid was all rest number at' next' out'
 renamed was all rest number at at' next next' out out' e f h l =
     subst (λ (p : ℕ × ℕ × List ℕ). Laid was all rest number p.0 p.1 p.2) (λ i. (sym e i, sym f i, sym h i)) l
+
+pub loop-i-init : goal.loop-i-init
+loop-i-init g c = (c.requires.low, laid_start _ _ _)
 
 pub returns-then-next-number : goal.returns-then-next-number
 returns-then-next-number g c =
