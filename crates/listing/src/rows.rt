@@ -154,7 +154,7 @@ fn push_statement<K: Entry>(
     ensures { OnOk result (out.new.items ≡ out.old.items ++ row_of (kind_of K.WIDTH K.valid K.heading K.columns) place (message_of s.entry)) }
 {
     push_number(out, heap, place)?;
-    push_word(out, &[s.letter().byte()])?;
+    push_word(out, &[u8::from(s.letter())])?;
     push_word(out, says(s.letter()))?;
     push_cells(out, heap, &operands(s))?;
     push_columns(out, heap, entry)?;

@@ -26,7 +26,7 @@ returns g c =
     let blanks = breadth_of kind.heading in
     row (vec_items c.args.out.now) (decimal c.args.place) (59 ∷ byte_of (letter_in m) ∷ []) (59 ∷ says_of (letter_in m))
     (following (map text_of (operands_of m))) (following (map text_of (padded blanks (numbers_of kind.columns (item_in m))))) (10 ∷ [])
-    (ap (λ b. 59 ∷ b ∷ []) (c.byte.ensures ∙ ap byte_of c.letter.ensures))
+    (ap (λ b. 59 ∷ b ∷ []) (c.from.ensures ∙ ap byte_of c.letter.ensures))
     (ap (λ t. 59 ∷ t) (c.says.ensures ∙ ap says_of c.letter-2.ensures))
     (ap (λ o. following (map text_of o)) c.operands.ensures)
     (ap (λ o. following (map text_of (padded blanks (numbers_of kind.columns o)))) c.requires)
