@@ -230,10 +230,7 @@ fn alike_pages<K: Entry>(a: &[Option<Page<K>>], b: &[Option<Page<K>>]) -> bool {
         let same = match x {
             Some(x) => match y {
                 Some(y) => {
-                    x.item == y.item
-                        && x.epoch == y.epoch
-                        && x.queue == y.queue
-                        && x.slot == y.slot
+                    x.item == y.item && x.epoch == y.epoch && x.queue == y.queue && x.slot == y.slot
                 }
                 None => false,
             },
