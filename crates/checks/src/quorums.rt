@@ -71,6 +71,6 @@ fn numbers(rt: HostRuntime) {
         Refusal::Sheet,
     ];
     for (i, refusal) in all.iter().enumerate() {
-        assert_eq!(rt; usize::from(u8::from(refusal)), i.saturating_add(1));
+        assert_eq!(rt; usize::from(u8::from(*refusal)), i.saturating_add(1));
     }
 }
