@@ -32,7 +32,7 @@ pub trait Entry: Copy + Eq {
         ensures { out.new ≡ bytes self.now ++ drop WIDTH out.old };
 
     // The names of the columns.
-    fn names<'a>() -> &'a [u8]
+    fn names() -> &'static [u8]
         ensures { result.now ≡ heading };
 
     // The number in the column `i`, if there is one.

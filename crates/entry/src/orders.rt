@@ -96,7 +96,7 @@ impl Entry for ShareOrder {
         out[..9].copy_from_slice(&[kind, f1, f0, t1, t0, a3, a2, a1, a0]);
     }
 
-    fn names<'a>() -> &'a [u8] {
+    fn names() -> &'static [u8] {
         b"kind;from;to;amount"
     }
 

@@ -67,7 +67,7 @@ impl Entry for Reading {
         out[..8].copy_from_slice(&[h1, h0, self.week, quantity, a3, a2, a1, a0]);
     }
 
-    fn names<'a>() -> &'a [u8] {
+    fn names() -> &'static [u8] {
         b"house;week;quantity;amount"
     }
 
