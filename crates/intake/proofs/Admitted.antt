@@ -7,11 +7,12 @@ use Rattle.theory.specs.Statement as theory
 use Rattle.theory.specs.Statement.{Bits, Stmt}
 use Rattle.theory.specs.Calls.{ranged}
 use Rattle.wire.specs.Statements.{Message, send, echo, ready, have, value, seen, confirm, finish}
+use Rattle.votes.specs.Sets.{set_numbered}
 use Rattle.replica.specs.declared.state.Replica.{Replica}
 use Rattle.replica.specs.Store.{Store}
 use Rattle.replica.specs.View.{held, plan, box}
 use Rattle.replica.proofs.Finding.{held_some, mapped_some}
-use Rattle.intake.specs.Hearing.{and_then, bit_numbered, set_numbered, item_of, timely_of, vote_of, admit_of}
+use Rattle.intake.specs.Hearing.{and_then, bit_numbered, item_of, timely_of, vote_of, admit_of}
 use Rattle.intake.specs.Meaning.{means_of}
 
 -- an answer that is not declined has passed each check

@@ -4,9 +4,10 @@ use Rattle.common.specs.Limits.{epochs, rounds}
 use Rattle.common.specs.Refusals.{declined}
 use Rattle.common.specs.declared.refusal.Refusal.TheVariants.{Table, Sender, Range, Entry, Past, Future}
 use Rattle.theory.specs.Statement as theory
-use Rattle.theory.specs.Statement.{Bits, only, both, Stmt}
+use Rattle.theory.specs.Statement.{Stmt}
 use Rattle.wire.specs.Statements.{Message, send, echo, ready, have, value, seen, confirm, finish}
 use Rattle.wire.specs.Codec.{parse_of}
+use Rattle.votes.specs.Sets.{set_numbered}
 use Rattle.replica.specs.declared.state.Replica.{Replica}
 use Rattle.replica.specs.Store.{Store, fits}
 use Rattle.replica.specs.Holding.{vacant_of, held_of}
@@ -16,12 +17,9 @@ abbrev pub and_then : {A B : Type 0} → Result A ℕ → (A → Result B ℕ) �
 and_then (Err e) f = Err e
 and_then (Ok x) f = f x
 
--- the bit, and the set, that an operand is
+-- the bit that an operand is
 abbrev pub bit_numbered : ℕ → Option Bool
 bit_numbered b = cond (b == 0) (Some false) (cond (b == 1) (Some true) None)
-
-abbrev pub set_numbered : ℕ → Option Bits
-set_numbered u = cond (u == 1) (Some (only false)) (cond (u == 2) (Some (only true)) (cond (u == 3) (Some both) None))
 
 -- an entry for slot s of queue q: in range, and of the kind
 abbrev pub item_of : (List ℕ → Bool) → Replica → ℕ → ℕ → List ℕ → Result (List ℕ) ℕ

@@ -7,11 +7,12 @@ use Rattle.theory.specs.Machine.{small, hears}
 use Rattle.theory.specs.Calls.{accepts}
 use Rattle.wire.specs.Statements.{Message, send, echo, ready, have, value, seen, confirm, finish}
 use Rattle.wire.specs.Codec.{parse_of}
+use Rattle.votes.specs.Sets.{set_numbered}
 use Rattle.replica.specs.declared.state.Replica.{Replica}
 use Rattle.replica.specs.Store.{Store, fits}
 use Rattle.replica.specs.View.{held, plan, box}
 use Rattle.replica.specs.Holding.{Sized}
-use Rattle.intake.specs.Hearing.{bit_numbered, set_numbered}
+use Rattle.intake.specs.Hearing.{bit_numbered}
 
 -- the statement that a message means, whatever the replica: its entry is one of the kind, its bit a bit, its set a set
 abbrev pub means_of : (List ℕ → Bool) → Message → Option (Stmt (List ℕ))

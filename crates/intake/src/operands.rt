@@ -1,9 +1,8 @@
 // Operands of a statement: in range, and what they are.
 ghost use Rattle.std.specs.Prelude.{◌≡◌};
-ghost use Rattle.std.specs.Option.{option_map};
 ghost use Rattle.common.specs.Refusals.{answered, numbered};
-ghost use Rattle.replica.specs.Claims.{bits_of};
-ghost use Rattle.intake.specs.Hearing.{bit_numbered, set_numbered, item_of, timely_of, vote_of};
+ghost use Rattle.votes.specs.Sets.{bits_of, set_numbered};
+ghost use Rattle.intake.specs.Hearing.{bit_numbered, item_of, timely_of, vote_of};
 
 use common::{EPOCHS, ROUNDS, Refusal};
 use entry::Entry;
@@ -16,18 +15,6 @@ pub fn bit_in(b: u8) -> Option<bool>
     match b {
         0 => Some(false),
         1 => Some(true),
-        _ => None,
-    }
-}
-
-// The set that an operand is.
-pub fn set_in(u: u8) -> Option<Bits>
-    ensures { option_map bits_of result ≡ set_numbered u }
-{
-    match u {
-        1 => Some(Bits::Only(false)),
-        2 => Some(Bits::Only(true)),
-        3 => Some(Bits::Both),
         _ => None,
     }
 }
@@ -76,9 +63,7 @@ pub fn bit_vote(replica: &Replica, epoch: u16, round: u8, bit: u8) -> Result<boo
 pub fn set_vote(replica: &Replica, epoch: u16, round: u8, set: u8) -> Result<Bits, Refusal>
     ensures { answered bits_of result ≡ vote_of replica.now epoch round (set_numbered set) }
 {
-    let Some(set) = set_in(set) else {
-        return Err(Refusal::Range);
-    };
+    let set = Bits::try_from(set)?;
     timely(replica, epoch, round)?;
     Ok(set)
 }

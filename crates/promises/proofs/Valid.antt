@@ -13,11 +13,12 @@ use Rattle.theory.proofs.Choosing.{alone_filed}
 use Rattle.wire.specs.Statements.{Message, send, echo, ready, have, value, seen, confirm, finish}
 use Rattle.wire.specs.Codec.{parse_of}
 use Rattle.wire.proofs.Reading.{written_read}
+use Rattle.votes.specs.Sets.{number_of_set, set_numbered}
 use Rattle.replica.specs.Store.{Store}
 use Rattle.replica.specs.View.{held}
-use Rattle.showing.specs.Spoken.{number_of_set, spoken, spelled}
+use Rattle.showing.specs.Spoken.{spoken, spelled}
 use Rattle.showing.proofs.Standing.{stands}
-use Rattle.intake.specs.Hearing.{bit_numbered, set_numbered}
+use Rattle.intake.specs.Hearing.{bit_numbered}
 use Rattle.intake.specs.Meaning.{means_of, Says}
 use Rattle.promises.specs.Runs.{Kind, Call, submit, opens, hear, turns, Asked}
 use Rattle.promises.specs.Promised.{Set, Honest, state, Lending}

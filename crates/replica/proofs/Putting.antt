@@ -11,13 +11,14 @@ use Rattle.theory.specs.Calls.{ranged}
 use Rattle.theory.specs.Turns.{set_of}
 use Rattle.theory.proofs.Memory.{put_new, put_other, put_away}
 use Rattle.votes.specs.declared.marks.Marks.{Marks}
+use Rattle.votes.specs.Sets.{in_set}
 use Rattle.votes.specs.Votes.{unmarked, marks, bit_of, set_for, mark, with_set}
 use Rattle.votes.proofs.Marking.{bit_other, bit_own, set_other, set_own, marks_own, marks_rest, marked}
 use Rattle.cells.specs.Rows.{Cells, slot_of, place_of}
 use Rattle.replica.specs.declared.state.Replica.{Replica}
 use Rattle.replica.specs.Store.{Store, fits}
 use Rattle.replica.specs.View.{held, row_cell, value_in, vote_cell, view, plan, box}
-use Rattle.replica.specs.Holding.{Sized, in_set, entered, marked as marked-at, held_of}
+use Rattle.replica.specs.Holding.{Sized, entered, marked as marked-at, held_of}
 use Rattle.replica.proofs.Placing.{send_own, send_other, row_own, row_other, vote_own, vote_other}
 
 -- the tables are long enough

@@ -1,28 +1,76 @@
 -- A cell in sight: what is settled by what the tables and votes hold there.
-use Rattle.std.proofs.Common.{◌≡◌, ℕ, ◌<◌, true, get_or, Some, None, Option, refl, ap, ◌∙◌}
+use Rattle.std.proofs.Common.{◌≡◌, ℕ, ◌<◌, Bool, true, false, ◌↔◌, ltb, eqb, get_or, List, Some, None, Option, sym, refl, ap, ◌∙◌}
+use mathlib.Core.Bool.{beq}
 use Rattle.std.specs.Option.{option_map}
-use Rattle.std.proofs.lemmas.Bool.{lt-ltb}
-use Rattle.theory.specs.Statement.{Bits, confirm, StmtEq, decided}
+use Rattle.std.proofs.lemmas.Bool.{lt-ltb, and_parts, and_from, cond-true}
+use Rattle.common.specs.Limits.{epochs}
+use Rattle.theory.specs.Statement.{only, Stmt, seen, confirm, finish, StmtEq, decided}
 use Rattle.theory.specs.Calls.{ranged}
-use Rattle.votes.specs.Votes.{unmarked, set_for}
+use Rattle.votes.specs.contracts.bits.BitsPartialEq.TheImpl as sets
+use Rattle.votes.specs.declared.bits.Bits.{Bits}
+use Rattle.votes.specs.declared.bits.Bits.TheVariants.{Only, Both}
+use Rattle.votes.specs.Sets.{bits_of}
+use Rattle.votes.specs.Votes.{unmarked, bit_of, set_for}
 use Rattle.replica.specs.declared.state.Replica.{Replica}
 use Rattle.replica.specs.Store.{Store}
-use Rattle.replica.specs.View.{plan, box, bytes_same}
-use Rattle.replica.specs.Holding.{taken_of, settled, sets_same, vacant_of}
+use Rattle.replica.specs.View.{held, plan, box, bytes_same}
+use Rattle.replica.specs.Holding.{taken_of, settled_by, settled, vacant_of}
 
-decided_same : {A B : Type 0} (d : Dec A) (e : Dec B) → (A → B) → (B → A) → decided d ≡ decided e
-decided_same (yes a) (yes b) f g = refl
-decided_same (yes a) (no n) f g = absurd (n (f a))
-decided_same (no n) (yes b) f g = absurd (n (g b))
-decided_same (no n) (no k) f g = refl
+-- the test tells whether what f sees is the same
+abbrev pub Tells : {A B : Type 0} → (A → A → Bool) → (A → B) → Type 0
+Tells {A} eq f = (x y : A) → (eq x y ≡ true) ↔ (f x ≡ f y)
 
--- where statements differ only in what they carry
-settled_under : {A B : Type 0} (d : Discrete A) (e : Discrete B) (f : A → B) → ((x y : A) → f x ≡ f y → x ≡ y) → (o : Option A) (x : A) → settled d o x ≡ settled e (option_map f o) (f x)
-settled_under d e f inj None x = refl
-settled_under d e f inj (Some y) x = ap taken_of (decided_same (d y x) (e (f y) (f x)) (ap f) (inj y x))
+only_one : (a b : Bool) → only a ≡ only b → a ≡ b
+only_one a b h = cc
 
-pub confirm_vacant : (m : Replica) (t : Store) (j e k : ℕ) (u : Bits) → j < m.set.n → ranged (plan m) (box m t) (confirm e k u) ≡ true
-    → settled sets_same (set_for (get_or m.votes.confirms k unmarked) j) u ≡ vacant_of m t j (confirm e k u)
-confirm_vacant m t j e k u l r =
-    settled_under sets_same (StmtEq bytes_same) (confirm e k) (λ x y h. cc) (set_for (get_or m.votes.confirms k unmarked) j) u
-    ∙ rw (lt-ltb j m.set.n l, r) refl
+pub bits_told : Tells beq (λ (v : Bool). v)
+bits_told true true = (λ e. refl, λ e. refl)
+bits_told true false = (λ e. cc, λ e. cc)
+bits_told false true = (λ e. cc, λ e. cc)
+bits_told false false = (λ e. refl, λ e. refl)
+
+pub sets_told : Tells sets.eq-value.it bits_of
+sets_told (Only a) (Only b) = (λ e. ap only ((bits_told a b).0 e), λ e. (bits_told a b).1 (only_one a b e))
+sets_told (Only a) Both = (λ e. cc, λ e. cc)
+sets_told Both (Only b) = (λ e. cc, λ e. cc)
+sets_told Both Both = (λ e. refl, λ e. refl)
+
+-- and whether what carries it is
+pub carried_told : {A B C : Type 0} (eq : A → A → Bool) (f : A → B) (st : B → C) → Tells eq f → ((x y : B) → st x ≡ st y → x ≡ y) → Tells eq (λ x. st (f x))
+carried_told eq f st told inj x y = (λ e. ap st ((told x y).0 e), λ e. (told x y).1 (inj (f x) (f y) e))
+
+pub carried : {A B C : Type 0} (f : A → B) (st : B → C) (o : Option A) → option_map (λ x. st (f x)) o ≡ option_map st (option_map f o)
+carried f st None = refl
+carried f st (Some x) = refl
+
+decided_by : {P : Type 0} (b : Bool) (d : Dec P) → (b ≡ true) ↔ P → b ≡ decided d
+decided_by true (yes a) told = refl
+decided_by true (no n) told = absurd (n (told.0 refl))
+decided_by false (yes a) told = told.1 a
+decided_by false (no n) told = refl
+
+settled_under : {A B : Type 0} (eq : A → A → Bool) (e : Discrete B) (f : A → B) → Tells eq f → (o : Option A) (x : A) → settled_by eq o x ≡ settled e (option_map f o) (f x)
+settled_under eq e f told None x = refl
+settled_under eq e f told (Some y) x = ap taken_of (decided_by (eq y x) (e (f y) (f x)) (told y x))
+
+-- so it settles the statement, where that is in sight
+pub settled_at : {A : Type 0} (eq : A → A → Bool) (st : A → Stmt (List ℕ)) → Tells eq st → (guard : Bool) → guard ≡ true → (o : Option A) (there : Option (Stmt (List ℕ))) → option_map st o ≡ there → (x : A) → settled_by eq o x ≡ settled (StmtEq bytes_same) (held guard there) (st x)
+settled_at eq st told guard g o there is x =
+    settled_under eq (StmtEq bytes_same) st told o x
+    ∙ ap (λ p. settled (StmtEq bytes_same) p (st x)) (is ∙ sym (cond-true guard there None g))
+
+module _ (m : Replica) (t : Store) (j : ℕ) (lj : j < m.set.n) where
+  pub seen_vacant : (e k : ℕ) (v : Bool) (o : Option Bool) → ranged (plan m) (box m t) (seen e k v) ≡ true → o ≡ bit_of (get_or m.votes.seens k unmarked) j → settled_by beq o v ≡ vacant_of m t j (seen e k v)
+  seen_vacant e k v o r is =
+      settled_at beq (seen e k) (carried_told beq (λ x. x) (seen e k) bits_told (λ x y h. cc)) _ (and_from _ _ (lt-ltb j m.set.n lj) r) o _ (ap (option_map (seen e k)) is) v
+
+  pub confirm_vacant : (e k : ℕ) (u : Bits) (o : Option Bits) → ranged (plan m) (box m t) (confirm e k (bits_of u)) ≡ true → option_map bits_of o ≡ set_for (get_or m.votes.confirms k unmarked) j → settled_by sets.eq-value.it o u ≡ vacant_of m t j (confirm e k (bits_of u))
+  confirm_vacant e k u o r is =
+      settled_at sets.eq-value.it (λ x. confirm e k (bits_of x)) (carried_told sets.eq-value.it bits_of (confirm e k) sets_told (λ x y h. cc)) _ (and_from _ _ (lt-ltb j m.set.n lj) r) o _
+      (carried bits_of (confirm e k) o ∙ ap (option_map (confirm e k)) is) u
+
+  pub finish_vacant : (e : ℕ) (v : Bool) (o : Option Bool) → ranged (plan m) (box m t) (finish e v) ≡ true → o ≡ bit_of m.votes.finish j → settled_by beq o v ≡ vacant_of m t j (finish e v)
+  finish_vacant e v o r is =
+      let p = and_parts (ltb e epochs) (eqb e m.epoch) r in
+      settled_at beq (finish e) (carried_told beq (λ x. x) (finish e) bits_told (λ x y h. cc)) true refl o _
+      (ap (option_map (finish e)) (is ∙ sym (cond-true _ _ None (and_from _ _ (lt-ltb j m.set.n lj) p.0) ∙ cond-true _ _ _ p.1))) v

@@ -1,14 +1,9 @@
 -- What each case of a claim states, with the values that it carries.
 use Rattle.std.specs.Prelude.{ℕ, List}
-use Rattle.theory.specs.Statement.{Bits, only, both, Stmt, sends, echo, ready, have, value, seen, confirm, finish}
-use Rattle.replica.specs.declared.claim.Bits as sets
-use Rattle.replica.specs.declared.claim.Bits.TheVariants.{Only, Both}
+use Rattle.theory.specs.Statement.{Stmt, sends, echo, ready, have, value, seen, confirm, finish}
+use Rattle.votes.specs.Sets.{bits_of}
 use Rattle.replica.specs.declared.claim.Claim as declared
 use Rattle.replica.specs.declared.claim.Claim.TheVariants.{Send, Echo, Ready, Have, Value, Seen, Confirm, Finish}
-
-abbrev pub bits_of : sets.Bits → Bits
-bits_of (Only v) = only v
-bits_of Both = both
 
 abbrev pub claim_of : {K : Type 0} → (K → List ℕ) → declared.Claim K → Stmt (List ℕ)
 claim_of bytes (Send s x) = sends s (bytes x)

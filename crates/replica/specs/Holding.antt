@@ -1,14 +1,13 @@
 -- What is changed where a statement is held, and what is told where something is held already.
 use Rattle.std.specs.Prelude.{◌≡◌, ℕ, Bool, true, false, cond, List, length, Some, None, Ok, Option, Result, slice_index_or, slice_set}
-use Rattle.std.proofs.Math.Bool.{Bool-discrete}
 use Rattle.common.specs.Limits.{rounds}
 use Rattle.common.specs.Refusals.{declined}
 use Rattle.common.specs.declared.refusal.Refusal.TheVariants.{Held, Other}
-use Rattle.theory.specs.Statement.{Bits, only, both, Bits-discrete, Stmt, sends, echo, ready, have, value, seen, confirm, finish, StmtEq, cell, decided}
+use Rattle.theory.specs.Statement.{Stmt, sends, echo, ready, have, value, seen, confirm, finish, StmtEq, cell, decided}
 use Rattle.theory.specs.Machine.{small, hears}
-use Rattle.theory.specs.Turns.{same_bit}
 use Rattle.votes.specs.declared.marks.Marks.{Marks}
 use Rattle.votes.specs.declared.ballot.Votes.{Votes}
+use Rattle.votes.specs.Sets.{in_set}
 use Rattle.votes.specs.Votes.{unmarked, mark, with_set}
 use Rattle.cells.specs.Rows.{Cells, slot_of, place_of}
 use Rattle.replica.specs.declared.state.Replica.{Replica}
@@ -19,13 +18,13 @@ use Rattle.replica.specs.View.{view, box, bytes_same}
 abbrev pub taken_of : Bool → Result (Unit {0}) ℕ
 taken_of same = cond same (declined Held) (declined Other)
 
--- whether x fits where one can be held
-abbrev pub settled : {A : Type 0} → Discrete A → Option A → A → Result (Unit {0}) ℕ
-settled d None x = Ok tt
-settled d (Some y) x = taken_of (decided (d y x))
+-- whether x fits where one can be held, which a test tells from others
+abbrev pub settled_by : {A : Type 0} → (A → A → Bool) → Option A → A → Result (Unit {0}) ℕ
+settled_by eq None x = Ok tt
+settled_by eq (Some y) x = taken_of (eq y x)
 
-abbrev pub sets_same : Discrete Bits
-sets_same = Bits-discrete Bool-discrete
+abbrev pub settled : {A : Type 0} → Discrete A → Option A → A → Result (Unit {0}) ℕ
+settled d = settled_by (λ y x. decided (d y x))
 
 -- whether sender j's cell for the statement is free
 abbrev pub vacant_of : Replica → Store → ℕ → Stmt (List ℕ) → Result (Unit {0}) ℕ
@@ -36,11 +35,6 @@ pub record Sized (m : Replica) : Type 0 where
   pub values : length m.votes.values ≡ rounds
   pub seens : length m.votes.seens ≡ rounds
   pub confirms : length m.votes.confirms ≡ rounds
-
--- whether a bit is in a set
-abbrev pub in_set : Bits → Bool → Bool
-in_set (only v) u = same_bit v u
-in_set both u = true
 
 abbrev pub with_sends : Store → Cells → Store
 with_sends t c = record { sends = c; echoes = t.echoes; readies = t.readies; haves = t.haves; pages = t.pages }

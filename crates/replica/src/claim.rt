@@ -1,9 +1,4 @@
-// The set of a confirm.
-#[derive(Clone, Copy)]
-pub enum Bits {
-    Only(bool),
-    Both,
-}
+use votes::Bits;
 
 // A statement with its entry read and its bit or set known: what a cell can hold.
 #[derive(Clone, Copy)]

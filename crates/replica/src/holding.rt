@@ -10,7 +10,7 @@ ghost use Rattle.replica.specs.Holding.{vacant_of, held_of, Heard};
 
 use crate::claim::Claim;
 use crate::lent::Tables;
-use crate::settling::{settle_bit, settle_entry, settle_set, taken};
+use crate::settling::{settle, settle_entry};
 use crate::state::Replica;
 use cells::{place, slot_place};
 use common::Refusal;
@@ -50,19 +50,19 @@ impl Replica {
             ),
             Claim::Value { round, bit, .. } => {
                 if self.votes.values[round as usize].has(bit, sender) {
-                    return taken(true);
+                    return Err(Refusal::Held);
                 }
                 Ok(())
             }
-            Claim::Seen { round, bit, .. } => settle_bit(
+            Claim::Seen { round, bit, .. } => settle(
                 self.votes.seens[round as usize].bit(sender),
                 bit,
             ),
-            Claim::Confirm { round, set, .. } => settle_set(
+            Claim::Confirm { round, set, .. } => settle(
                 self.votes.confirms[round as usize].set(sender),
                 set,
             ),
-            Claim::Finish { bit, .. } => settle_bit(self.votes.finish.bit(sender), bit),
+            Claim::Finish { bit, .. } => settle(self.votes.finish.bit(sender), bit),
         }
     }
 
@@ -106,11 +106,7 @@ impl Replica {
             }
             Claim::Confirm { round, set, .. } => {
                 let k = round as usize;
-                self.votes.confirms[k] = self.votes.confirms[k].mark_set(
-                    set.has(false),
-                    set.has(true),
-                    sender,
-                );
+                self.votes.confirms[k] = self.votes.confirms[k].mark_set(Some(set), sender);
             }
             Claim::Finish { bit, .. } => {
                 self.votes.finish = self.votes.finish.mark(bit, sender);

@@ -6,7 +6,6 @@
 
 mod book;
 mod claim;
-mod claims;
 mod fresh;
 mod holding;
 mod lending;
@@ -18,7 +17,8 @@ mod sets;
 mod settling;
 mod state;
 
-pub use claim::{Bits, Claim};
+pub use claim::Claim;
 pub use lent::{Page, Tables};
 pub use set::Set;
 pub use state::{Replica, Stage};
+pub use votes::Bits;

@@ -1,14 +1,10 @@
 // Whether one fits where something may be held already.
 ghost use Rattle.std.specs.Prelude.{◌≡◌};
-ghost use Rattle.std.proofs.Math.Bool.{Bool-discrete};
 ghost use Rattle.std.specs.Option.{option_map};
 ghost use Rattle.common.specs.Refusals.{numbered};
-ghost use Rattle.theory.specs.Turns.{set_of};
 ghost use Rattle.replica.specs.View.{bytes_same};
-ghost use Rattle.replica.specs.Claims.{bits_of};
-ghost use Rattle.replica.specs.Holding.{taken_of, settled, sets_same};
+ghost use Rattle.replica.specs.Holding.{taken_of, settled, settled_by};
 
-use crate::claim::Bits;
 use common::Refusal;
 use entry::Entry;
 
@@ -22,25 +18,14 @@ pub fn settle_entry<K: Entry>(held: Option<K>, item: K) -> Result<(), Refusal>
     }
 }
 
-// A bit, as the one bit of a sender.
-pub fn settle_bit(held: Option<bool>, bit: bool) -> Result<(), Refusal>
-    ensures { numbered result ≡ settled Bool-discrete held bit }
+// Anything.
+pub fn settle<T: PartialEq + Copy>(held: Option<T>, item: T) -> Result<(), Refusal>
+    ensures { numbered result ≡ settled_by T.eq held item }
 {
     match held {
         None => Ok(()),
-        Some(old) => taken(old == bit),
+        Some(old) => taken(old == item),
     }
-}
-
-// A set, as the set of a sender.
-pub fn settle_set(held: (bool, bool), set: Bits) -> Result<(), Refusal>
-    ensures { numbered result ≡ settled sets_same (set_of held.0 held.1) (bits_of set) }
-{
-    let (zero, one) = held;
-    if !zero && !one {
-        return Ok(());
-    }
-    taken(zero == set.has(false) && one == set.has(true))
 }
 
 // It is held already: the same, or another.

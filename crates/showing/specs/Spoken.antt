@@ -1,15 +1,10 @@
 -- A statement as it goes over the wire.
-use Rattle.std.specs.Prelude.{ℕ, true, false, List}
+use Rattle.std.specs.Prelude.{ℕ, List}
 use Rattle.theory.specs.Count.{bit}
-use Rattle.theory.specs.Statement.{Bits, only, both, Stmt, sends, echo, ready, have, value, seen, confirm, finish}
+use Rattle.theory.specs.Statement.{Stmt, sends, echo, ready, have, value, seen, confirm, finish}
 use Rattle.wire.specs.Statements.{Message, bytes_of}
 use Rattle.wire.specs.Statements as message
-
--- the number of a set
-abbrev pub number_of_set : Bits → ℕ
-number_of_set (only false) = 1
-number_of_set (only true) = 2
-number_of_set both = 3
+use Rattle.votes.specs.Sets.{number_of_set}
 
 abbrev pub spoken : Stmt (List ℕ) → Message
 spoken (sends s x) = message.send s x

@@ -3,15 +3,14 @@ ghost use Rattle.std.specs.Prelude.{◌≡◌, ℕ, ◌<◌};
 ghost use Rattle.std.specs.Option.{option_map};
 ghost use Rattle.theory.specs.Statement.{finish, at_value, at_seen, at_confirm, at_finish};
 ghost use Rattle.theory.specs.Machine.{own};
-ghost use Rattle.theory.specs.Turns.{set_of};
-ghost use Rattle.replica.specs.Claims.{bits_of, claim_of};
+ghost use Rattle.replica.specs.Claims.{claim_of};
 ghost use Rattle.replica.specs.Store.{Store};
 ghost use Rattle.replica.specs.View.{box};
 ghost use Rattle.showing.specs.Boards.{by_round};
 
 use common::EPOCHS;
 use entry::Entry;
-use replica::{Bits, Claim, Replica};
+use replica::{Claim, Replica};
 
 // The finish of an epoch.
 pub fn finish_at<K: Entry>(replica: &Replica, epoch: u16) -> Option<Claim<K>>
@@ -93,25 +92,12 @@ fn confirm_at<K: Entry>(replica: &Replica, round: u8) -> Option<Claim<K>>
     requires early { replica.now.epoch < 256 }
     ensures { (t : Store) → option_map (claim_of K.bytes) result ≡ own (box replica.now t) (at_confirm replica.now.epoch round) }
 {
-    let (zero, one) = replica.votes.confirms[round as usize].set(replica.set.me);
-    match bits(zero, one) {
+    match replica.votes.confirms[round as usize].set(replica.set.me) {
         Some(set) => Some(Claim::Confirm {
             epoch: replica.epoch,
             round,
             set,
         }),
         None => None,
-    }
-}
-
-// A set, by whether bit 0 and whether bit 1 is in it.
-fn bits(zero: bool, one: bool) -> Option<Bits>
-    ensures { option_map bits_of result ≡ set_of zero one }
-{
-    match (zero, one) {
-        (true, true) => Some(Bits::Both),
-        (true, false) => Some(Bits::Only(false)),
-        (false, true) => Some(Bits::Only(true)),
-        (false, false) => None,
     }
 }

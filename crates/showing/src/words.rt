@@ -2,34 +2,16 @@
 ghost use Rattle.std.specs.Prelude.{◌≡◌, ℕ, ◌≤◌, List, length, take, Some, None};
 ghost use Rattle.std.specs.Option.{option_map};
 ghost use Rattle.common.specs.Refusals.{numbered};
-ghost use Rattle.theory.specs.Count.{bit as digit_of};
 ghost use Rattle.theory.specs.Statement.{entry_stated};
 ghost use Rattle.wire.specs.Statements.{message_of};
 ghost use Rattle.wire.specs.Codec.{placed, unfit};
-ghost use Rattle.replica.specs.Claims.{bits_of, claim_of};
-ghost use Rattle.showing.specs.Spoken.{number_of_set, spoken, spelled};
+ghost use Rattle.replica.specs.Claims.{claim_of};
+ghost use Rattle.showing.specs.Spoken.{spoken, spelled};
 
 use common::Refusal;
 use entry::Entry;
-use replica::{Bits, Claim};
+use replica::Claim;
 use wire::Statement;
-
-// A bit and a set, by their numbers.
-fn digit(bit: bool) -> u8
-    ensures { result ≡ digit_of bit }
-{
-    if bit { 1 } else { 0 }
-}
-
-fn set_number(set: Bits) -> u8
-    ensures { result ≡ number_of_set (bits_of set) }
-{
-    match set {
-        Bits::Only(false) => 1,
-        Bits::Only(true) => 2,
-        Bits::Both => 3,
-    }
-}
 
 // The claim's entry, if it has one.
 fn item_in<K: Entry>(claim: &Claim<K>) -> Option<K>
@@ -83,21 +65,21 @@ fn worded<'a, K: Entry>(claim: &Claim<K>, item: &'a [u8]) -> Statement<'a>
         Claim::Value { epoch, round, bit } => Statement::Value {
             epoch: *epoch,
             round: *round,
-            bit: digit(*bit),
+            bit: u8::from(*bit),
         },
         Claim::Seen { epoch, round, bit } => Statement::Seen {
             epoch: *epoch,
             round: *round,
-            bit: digit(*bit),
+            bit: u8::from(*bit),
         },
         Claim::Confirm { epoch, round, set } => Statement::Confirm {
             epoch: *epoch,
             round: *round,
-            set: set_number(*set),
+            set: u8::from(*set),
         },
         Claim::Finish { epoch, bit } => Statement::Finish {
             epoch: *epoch,
-            bit: digit(*bit),
+            bit: u8::from(*bit),
         },
     }
 }

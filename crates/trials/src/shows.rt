@@ -4,7 +4,7 @@ use replica::{Page, Replica, Tables};
 use showing::{Shown, show};
 use std::process::Abort;
 use std::test::*;
-use votes::Marks;
+use votes::{Marks, Mask};
 
 const X: &[u8; 8] = &[0, 12, 7, 1, 0, 0, 13, 72];
 
@@ -77,28 +77,28 @@ fn vote(replica: &mut Replica) {
     replica.past[0] = Some(true);
     replica.past[5] = Some(true);
     replica.votes.finish = Marks {
-        zero: 0x0004,
-        one: 0x0008,
+        zero: Mask(0x0004),
+        one: Mask(0x0008),
     };
     replica.votes.values[0] = Marks {
-        zero: 0x0007,
-        one: 0x000c,
+        zero: Mask(0x0007),
+        one: Mask(0x000c),
     };
     replica.votes.values[3] = Marks {
-        zero: 0x000b,
-        one: 0x0001,
+        zero: Mask(0x000b),
+        one: Mask(0x0001),
     };
     replica.votes.values[15] = Marks {
-        zero: 0,
-        one: 0x0004,
+        zero: Mask(0),
+        one: Mask(0x0004),
     };
     replica.votes.seens[0] = Marks {
-        zero: 0,
-        one: 0x0004,
+        zero: Mask(0),
+        one: Mask(0x0004),
     };
     replica.votes.confirms[0] = Marks {
-        zero: 0x000c,
-        one: 0x0005,
+        zero: Mask(0x000c),
+        one: Mask(0x0005),
     };
 }
 

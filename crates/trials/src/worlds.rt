@@ -243,15 +243,6 @@ fn alike_pages<K: Entry>(a: &[Option<Page<K>>], b: &[Option<Page<K>>]) -> bool {
     true
 }
 
-fn alike_marks(a: &[Marks], b: &[Marks]) -> bool {
-    for (x, y) in a.iter().zip(b.iter()) {
-        if x.zero != y.zero || x.one != y.one {
-            return false;
-        }
-    }
-    true
-}
-
 fn staged(stage: Stage) -> (u8, u8, bool) {
     match stage {
         Stage::Unopened => (0, 0, false),
@@ -269,10 +260,7 @@ pub fn alike(a: &Replica, b: &Replica) -> bool {
         && a.set.me == b.set.me
         && a.epoch == b.epoch
         && staged(a.stage) == staged(b.stage)
-        && alike_marks(&a.votes.values, &b.votes.values)
-        && alike_marks(&a.votes.seens, &b.votes.seens)
-        && alike_marks(&a.votes.confirms, &b.votes.confirms)
-        && alike_marks(&[a.votes.finish], &[b.votes.finish])
+        && a.votes == b.votes
         && a.past == b.past
         && a.heads == b.heads
         && a.pages == b.pages
@@ -438,10 +426,10 @@ fn mark_one(marks: &mut Marks, sender: u8, zero: bool, one: bool) -> Result<(), 
     }
     let bit = 1u16 << sender;
     if zero {
-        marks.zero |= bit;
+        marks.zero.0 |= bit;
     }
     if one {
-        marks.one |= bit;
+        marks.one.0 |= bit;
     }
     Ok(())
 }

@@ -1,10 +1,11 @@
 -- Masks, a bit at a time: how many senders are in one, and who is in the masks made of others.
-use Rattle.std.proofs.Common.{◌≡◌, ℕ, zero, suc, ◌+◌, ◌*◌, ◌/◌, ◌%◌, ◌^◌, ◌<◌, Bool, true, false, cond, not, ◌&&◌, ◌||◌, eqb, ◌⊎◌, sym, refl, ap, ◌∙◌, ap₂, inl, inr, pow-suc, add-one, arith}
+use Rattle.std.proofs.Common.{◌≡◌, ℕ, zero, suc, ◌+◌, ◌*◌, ◌/◌, ◌%◌, ◌^◌, ◌<◌, ◌≤◌, min, Bool, true, false, cond, if◌then◌else◌, not, ◌&&◌, ◌||◌, eqb, ◌⊎◌, sym, refl, ap, ◌∙◌, ap₂, inl, inr, pow-suc, add-one, arith}
 use native.Mathlib.Nat.{zero-div}
 use lib.Bits.{bit_and, bit_or, bit_xor}
 use lib.Count.{ones, ones_in, ones_step}
 use Rattle.std.proofs.lemmas.Nat.{and_shr, or_shr, xor_shr, and_mod, or_mod, xor_mod, shr-shr, field_of, mod-pow-add}
-use Rattle.std.proofs.lemmas.Bool.{eq-eqb, ne_eqb, cases_eq}
+use Rattle.std.proofs.Math.Nat.{div-eq_of_lt, mod-eq_of_lt, pow-le-pow_right}
+use Rattle.std.proofs.lemmas.Bool.{eq-eqb, ne_eqb, cases_eq, cases_lt}
 use Rattle.theory.specs.Count.{bit, count}
 use Rattle.votes.specs.Votes.{has, with}
 
@@ -47,7 +48,7 @@ low_bit : (h m : ℕ) → (h * 2 + m % 2) % 2 ≡ m % 2
 low_bit h m = omega arith
 
 -- the ones among the lowest n bits are the senders below n
-pub low_ones : (n m : ℕ) → ones (m % 2 ^ n) ≡ count n (has m)
+low_ones : (n m : ℕ) → ones (m % 2 ^ n) ≡ count n (has m)
 low_ones zero m = let e : m % 1 ≡ 0 = omega arith in ap ones e ∙ ones_zero
 low_ones (suc n) m =
     let k : n + 1 ≡ suc n = add-one n in
@@ -56,6 +57,9 @@ low_ones (suc n) m =
     ones_step (m % 2 ^ suc n) ∙ ap₂ (λ x y. x + ones y) low high
     ∙ ap₂ (λ x y. x + y) (sym (bit_low m)) (low_ones n (m / 2) ∙ count_same n _ _ (λ j l. sym (has_high m j)))
     ∙ sym (count_low n (has m))
+
+pow_above : (m j : ℕ) → m < 2 ^ 16 → 16 ≤ j → m < 2 ^ j
+pow_above m j h l = let e : 2 ^ 16 ≤ 2 ^ j = pow-le-pow_right (omega arith) l in omega (arith, h, e)
 
 -- an operation on masks that works on each bit alone, as tell does
 has_op : (op : ℕ → ℕ → ℕ) (tell : Bool → Bool → Bool) → ((a b k : ℕ) → op a b / 2 ^ k ≡ op (a / 2 ^ k) (b / 2 ^ k)) → ((a b k : ℕ) → op a b % 2 ^ k ≡ op (a % 2 ^ k) (b % 2 ^ k))
@@ -98,6 +102,27 @@ has_except a b j = has_xor a (bit_and a b) j ∙ ap (differ (has a j)) (has_and 
 pub has_none : (j : ℕ) → has 0 j ≡ false
 unfolding has
 has_none j = ap (λ x. eqb (x % 2) 1) (zero-div (2 ^ j))
+
+-- a mask has no sender past its sixteen bits
+pub has_past : (m j : ℕ) → m < 2 ^ 16 → 16 ≤ j → has m j ≡ false
+unfolding has
+has_past m j h l = let e : m / 2 ^ j ≡ 0 = div-eq_of_lt (pow_above m j h l) in ap (λ x. eqb (x % 2) 1) e
+
+-- so its count stops there
+pub count_cut : (m n : ℕ) → m < 2 ^ 16 → ones (m % 2 ^ min n 16) ≡ count n (has m)
+count_cut m n h = ap (λ x. ones x) (at (cases_lt n 16)) ∙ low_ones n m
+  where
+    at : (n < 16) ⊎ (16 ≤ n) → m % 2 ^ min n 16 ≡ m % 2 ^ n
+    at (inl l) = let e : min n 16 ≡ n = omega arith in rw e
+    at (inr l) = let e : min n 16 ≡ 16 = omega arith in rw e (mod-eq_of_lt h ∙ sym (mod-eq_of_lt (pow_above m n h l)))
+
+-- who is in what was kept of a mask, of which j is as told
+pub has_kept : (k m j : ℕ) (w z told : Bool) → k ≡ (if w then m else 0) → w ≡ z → has m j ≡ told → has k j ≡ (z && told)
+has_kept k m j w z told e h t = rw (e, h) (at z)
+  where
+    at : (b : Bool) → has (if b then m else 0) j ≡ (b && told)
+    at true = t
+    at false = has_none j
 
 -- the mask of one sender
 first_bit : has 1 0 ≡ true

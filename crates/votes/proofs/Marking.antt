@@ -1,5 +1,7 @@
 -- What is marked after a sender has marked more: its own bit or set, and those of the others. And that nothing is marked at first.
-use Rattle.std.proofs.Common.{◌≡◌, ℕ, zero, suc, Bool, true, false, cond, not, ◌&&◌, ◌||◌, eqb, get_or, replicate, Some, None, refl, ◌∙◌, ap₂, arith}
+use Rattle.std.proofs.Common.{◌≡◌, ℕ, zero, suc, ◌*◌, ◌%◌, ◌^◌, ◌<◌, Bool, true, false, cond, if◌then◌else◌, not, ◌&&◌, ◌||◌, eqb, get_or, replicate, Some, None, refl, ap, ◌∙◌, ap₂, arith}
+use lib.Bits.{bit_or, or_zero_r}
+use Rattle.std.proofs.lemmas.Nat.{one_shl}
 use Rattle.std.proofs.lemmas.Bool.{eq-eqb, ne_eqb}
 use Rattle.theory.specs.Turns.{set_of}
 use Rattle.votes.specs.declared.marks.Marks.{Marks}
@@ -14,6 +16,14 @@ with_one m j false i = at (has m i)
     at true = refl
     at false = refl
 
+-- the mask of the sender joined, if so wished
+pub joined : (m j a b k : ℕ) (w z : Bool) → j < 16 → a ≡ bit_or m b → b ≡ (if w then k else 0) → k ≡ 1 * 2 ^ j % 2 ^ 16 → w ≡ z → a ≡ cond z (with m j) m
+joined m j a b k w z l e h i t = e ∙ ap (bit_or m) h ∙ rw (t, i) (at z)
+  where
+    at : (v : Bool) → bit_or m (if v then (1 * 2 ^ j % 2 ^ 16) else 0) ≡ cond v (with m j) m
+    at true = ap (bit_or m) (one_shl j 16 l)
+    at false = or_zero_r m
+
 -- at the sender itself, and at another
 here : (x w e : Bool) → e ≡ true → (x || (w && e)) ≡ (x || w)
 here x w e h = grind (arith, h)
@@ -23,8 +33,8 @@ there x w e h = grind (arith, h)
 
 module _ (p : Marks) (z o : Bool) (j : ℕ) where
   marks_at : (v : Bool) (i : ℕ) → marks (with_set p z o j) v i ≡ (marks p v i || (among z o v && eqb i j))
-  marks_at true i = with_one p.one j o i
-  marks_at false i = with_one p.zero j z i
+  marks_at true i = with_one p.one.0 j o i
+  marks_at false i = with_one p.zero.0 j z i
 
   pub marked : Marked p z o j (with_set p z o j)
   marked = record {

@@ -1,28 +1,10 @@
 -- What two masks of senders mean, as cases on whether a sender is in the one and in the other.
-use Rattle.std.proofs.Common.{◌≡◌, Bool, true, false, not, ◌&&◌, ◌||◌, refl, arith}
+use Rattle.std.proofs.Common.{◌≡◌, Bool, true, false, not, ◌&&◌, ◌||◌, arith}
 use Rattle.theory.specs.Statement.{Bits, only, both}
 use Rattle.theory.specs.Turns.{set_of}
-use Rattle.votes.specs.Votes.{one_bit, is_bit, is_set, fits}
+use Rattle.votes.specs.Votes.{is_set, fits}
 
--- x and y: whether bit 0, and whether bit 1 is marked
-pub zero_told : (x y : Bool) → x ≡ is_bit false (one_bit x y)
-zero_told true y = refl
-zero_told false true = refl
-zero_told false false = refl
-
-pub one_told : (x y : Bool) → (y && not x) ≡ is_bit true (one_bit x y)
-one_told true true = refl
-one_told true false = refl
-one_told false true = refl
-one_told false false = refl
-
--- z and o: whether bit 0, and whether bit 1 is given
-pub seen_told : (z o x y : Bool) → ((z && x) || (o && (y && not x))) ≡ ((z && is_bit false (one_bit x y)) || (o && is_bit true (one_bit x y)))
-seen_told z o true true = refl
-seen_told z o true false = refl
-seen_told z o false true = refl
-seen_told z o false false = refl
-
+-- x and y: whether bit 0, and whether bit 1 is marked; z and o: whether bit 0, and whether bit 1 is given
 -- the marks are those of the set u, and it lies within the given bits; or some such set
 abbrev standing : Bool → Bool → Bool → Bool → Bits → Bool
 standing z o x y u = fits z o u && is_set u (set_of x y)

@@ -3,6 +3,7 @@ use Rattle.std.specs.Prelude.{◌≡◌, ℕ, ◌/◌, ◌%◌, ◌^◌, Bool, t
 use Rattle.theory.specs.Count.{count}
 use Rattle.theory.specs.Statement.{Bits, only, both}
 use Rattle.theory.specs.Turns.{set_of, same_bit}
+use Rattle.votes.specs.declared.mask.Mask.{Mask}
 use Rattle.votes.specs.declared.marks.Marks.{Marks}
 use Rattle.votes.specs.declared.ballot.Votes as declared
 
@@ -14,16 +15,23 @@ has mask j = mask / 2 ^ j % 2 == 1
 abbrev pub with : ℕ → ℕ → ℕ
 with mask j = bit_or mask (2 ^ j)
 
+abbrev pub senders : ℕ → Mask
+senders mask = record { 0 = mask }
+
 abbrev pub unmarked : Marks
-unmarked = record { zero = 0; one = 0 }
+unmarked = record { zero = senders 0; one = senders 0 }
 
 abbrev pub no_votes : declared.Votes
 no_votes = record { values = replicate 16 unmarked; seens = replicate 16 unmarked; confirms = replicate 16 unmarked; finish = unmarked }
 
+-- who has marked bit v
+abbrev pub mask_of : Marks → Bool → ℕ
+mask_of p true = p.one.0
+mask_of p false = p.zero.0
+
 -- a value: sender j has marked bit v
 abbrev pub marks : Marks → Bool → ℕ → Bool
-marks p true j = has p.one j
-marks p false j = has p.zero j
+marks p v j = has (mask_of p v) j
 
 -- a seen or a finish: the one bit of sender j, which is 0 if both are marked
 abbrev pub one_bit : Bool → Bool → Option Bool
@@ -54,7 +62,7 @@ is_set u (Some s) = same_set u s
 
 -- sender j marks the bits of a set as well, or one bit
 abbrev pub with_set : Marks → Bool → Bool → ℕ → Marks
-with_set p zero one j = record { zero = cond zero (with p.zero j) p.zero; one = cond one (with p.one j) p.one }
+with_set p zero one j = record { zero = senders (cond zero (with p.zero.0 j) p.zero.0); one = senders (cond one (with p.one.0 j) p.one.0) }
 
 abbrev pub mark : Marks → Bool → ℕ → Marks
 mark p v j = with_set p (not v) v j

@@ -1,7 +1,7 @@
 use crate::marks::Marks;
 
 // The votes of an epoch: by round, and the finish.
-#[derive(Clone, Copy)]
+#[derive(Clone, Copy, PartialEq, Eq, Debug)]
 pub struct Votes {
     pub values: [Marks; 16],
     pub seens: [Marks; 16],

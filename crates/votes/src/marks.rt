@@ -1,6 +1,8 @@
+use crate::mask::Mask;
+
 // The senders that have marked bit 0, and those that have marked bit 1.
-#[derive(Clone, Copy)]
+#[derive(Clone, Copy, PartialEq, Eq, Debug)]
 pub struct Marks {
-    pub zero: u16,
-    pub one: u16,
+    pub zero: Mask,
+    pub one: Mask,
 }

@@ -1,42 +1,56 @@
-// Sets of senders as masks: sender j is bit j, lowest first.
-ghost use Rattle.std.specs.Prelude.{◌≡◌, ℕ, ◌<◌, ◌≤◌, not, ◌&&◌, if◌then◌else◌};
+ghost use Rattle.std.specs.Prelude.{◌≡◌, ℕ, not, ◌&&◌, if◌then◌else◌, bit_and, bit_or};
 ghost use Rattle.theory.specs.Count.{count};
-ghost use Rattle.votes.specs.Votes.{has, with};
+ghost use Rattle.votes.specs.Votes.{has};
 
-// How many of the first n senders are in the mask.
-pub fn population(mask: u16, n: u8) -> u32
-    requires { n ≤ 16 }
-    ensures { result ≡ count n (has mask) }
-{
-    (mask as u32 & ((1u32 << n) - 1)).count_ones()
+use crate::mask::Mask;
+use std::ops::{BitAnd, BitOr};
+
+impl Mask {
+    // How many of the first n senders are in it.
+    pub(crate) fn count(self, n: u8) -> u32
+        ensures { result ≡ count n (has self.0) }
+    {
+        (self.0 as u32 & ((1u32 << n.min(16)) - 1)).count_ones()
+    }
+
+    // Whether a sender is in it.
+    pub(crate) fn contains(self, sender: u8) -> bool
+        ensures { result ≡ has self.0 sender }
+    {
+        sender < 16 && (self.0 >> sender) % 2 == 1
+    }
+
+    // Its senders that are not in another.
+    pub(crate) fn except(self, other: Mask) -> Mask
+        ensures { (j : ℕ) → has result.0 j ≡ (has self.0 j && not (has other.0 j)) }
+    {
+        Mask(self.0 ^ (self.0 & other.0))
+    }
+
+    // Its senders if so wished, else nobody.
+    pub(crate) fn kept(self, wished: bool) -> Mask
+        ensures { result.0 ≡ (if wished then self.0 else 0) }
+    {
+        if wished { self } else { Mask(0) }
+    }
 }
 
-// Whether a sender is in the mask.
-pub fn contains(mask: u16, sender: u8) -> bool
-    requires { sender < 16 }
-    ensures { result ≡ has mask sender }
-{
-    (mask >> sender) % 2 == 1
+impl BitAnd for Mask {
+    type Output = Mask;
+
+    ghost bitand_gives = { λ a b r. r.0 ≡ bit_and a.0 b.0 };
+
+    fn bitand(self, other: Mask) -> Mask {
+        Mask(self.0 & other.0)
+    }
 }
 
-// The mask, with a sender if so wished.
-pub fn joined(mask: u16, sender: u8, wished: bool) -> u16
-    requires { sender < 16 }
-    ensures { result ≡ (if wished then with mask sender else mask) }
-{
-    if wished { mask | (1 << sender) } else { mask }
-}
+impl BitOr for Mask {
+    type Output = Mask;
 
-// The senders of one mask that are not in another.
-pub fn except(mask: u16, other: u16) -> u16
-    ensures { (j : ℕ) → has result j ≡ (has mask j && not (has other j)) }
-{
-    mask ^ (mask & other)
-}
+    ghost bitor_gives = { λ a b r. r.0 ≡ bit_or a.0 b.0 };
 
-// The mask if so wished, else nobody.
-pub fn kept(mask: u16, wished: bool) -> u16
-    ensures { (j : ℕ) → has result j ≡ (wished && has mask j) }
-{
-    if wished { mask } else { 0 }
+    fn bitor(self, other: Mask) -> Mask {
+        Mask(self.0 | other.0)
+    }
 }

@@ -1,20 +1,19 @@
-use Rattle.std.proofs.Common.{sym, ap, ◌∙◌}
-use Rattle.theory.specs.Calls.{ranged}
-use Rattle.theory.specs.Turns.{set_of}
+use Rattle.std.proofs.Common.{◌∙◌}
 use Rattle.replica.specs.Store.{store}
-use Rattle.replica.specs.View.{plan, box}
-use Rattle.replica.specs.Claims.{claim_of, bits_of}
-use Rattle.replica.specs.Holding.{settled, sets_same, vacant_of}
-use Rattle.replica.proofs.Vacating.{confirm_vacant}
+use Rattle.replica.proofs.Vacating.{seen_vacant, confirm_vacant, finish_vacant}
 use Rattle.replica.proofs.state.Replica.vacant.Goals as goal
+
+pub returns-in-Seen : goal.returns-in-Seen
+returns-in-Seen g c =
+    let s = c.in-Seen in let t = store g.K.Entry.bytes c.args.tables.now in
+    rw s.is (c.settle.ensures ∙ seen_vacant c.args.self.now t c.args.sender c.requires.from s.epoch s.round s.bit c.bit.result (rw s.is at c.requires.ranged) c.bit.ensures)
+
+pub returns-in-Finish : goal.returns-in-Finish
+returns-in-Finish g c =
+    let s = c.in-Finish in let t = store g.K.Entry.bytes c.args.tables.now in
+    rw s.is (c.settle-in-Finish.ensures ∙ finish_vacant c.args.self.now t c.args.sender c.requires.from s.epoch s.bit c.bit-in-Finish.result (rw s.is at c.requires.ranged) c.bit-in-Finish.ensures)
 
 pub returns-in-Confirm : goal.returns-in-Confirm
 returns-in-Confirm g c =
-    let b = g.K.Entry.bytes in
-    let m = c.args.self.now in
-    let t = store b c.args.tables.now in
-    let u = bits_of c.in-Confirm.set in
-    c.settle_set.ensures
-    ∙ ap (λ p. settled sets_same (set_of p.0 p.1) u) c.set.ensures
-    ∙ confirm_vacant m t c.args.sender c.in-Confirm.epoch c.in-Confirm.round u c.requires.from (ap (λ x. ranged (plan m) (box m t) (claim_of b x)) (sym c.in-Confirm.is) ∙ c.requires.ranged)
-    ∙ ap (λ x. vacant_of m t c.args.sender (claim_of b x)) (sym c.in-Confirm.is)
+    let s = c.in-Confirm in let t = store g.K.Entry.bytes c.args.tables.now in
+    rw s.is (c.settle-in-Confirm.ensures ∙ confirm_vacant c.args.self.now t c.args.sender c.requires.from s.epoch s.round s.set c.set.result (rw s.is at c.requires.ranged) c.set.ensures)

@@ -1,0 +1,5 @@
+use Rattle.votes.proofs.Bitwise.{has_except}
+use Rattle.votes.proofs.mask.Mask.except.Goals as goal
+
+pub returns : goal.returns
+returns c = has_except c.args.self.0 c.args.other.0
