@@ -158,11 +158,9 @@ fn made() -> Result<Replica, Fail> {
     }
 }
 
-fn unmarked(rt: &impl Abort, rounds: &[Marks; 16]) {
-    for marks in rounds {
-        assert_eq!(rt; marks.zero.0, 0);
-        assert_eq!(rt; marks.one.0, 0);
-    }
+fn unmarked(rt: &impl Abort, marks: Marks) {
+    assert_eq!(rt; marks.zero.0, 0);
+    assert_eq!(rt; marks.one.0, 0);
 }
 
 #[test]
@@ -182,11 +180,12 @@ fn as_it_begins(rt: HostRuntime) -> Result<(), Fail> {
         } => return Err(Fail::new("open")),
         Stage::Awaiting => return Err(Fail::new("awaiting")),
     }
-    assert_eq!(rt; m.votes.finish.zero.0, 0);
-    assert_eq!(rt; m.votes.finish.one.0, 0);
-    unmarked(&rt, &m.votes.values);
-    unmarked(&rt, &m.votes.seens);
-    unmarked(&rt, &m.votes.confirms);
+    unmarked(&rt, m.votes.finish);
+    for round in &m.votes.rounds {
+        unmarked(&rt, round.values);
+        unmarked(&rt, round.seens);
+        unmarked(&rt, round.confirms);
+    }
     for head in &m.heads {
         assert_eq!(rt; *head, 0);
     }

@@ -7,8 +7,8 @@ use Rattle.common.specs.Limits.{least_replicas, most_replicas, most_slots, epoch
 use Rattle.common.specs.Quorums.{faults, echoes}
 use Rattle.theory.specs.Statement.{Stmt, sends, echo, ready, have, value, seen, confirm, finish, Cell, at_send, at_echo, at_ready, at_have, at_value, at_seen, at_confirm, at_finish}
 use Rattle.theory.specs.Machine.{made}
-use Rattle.votes.specs.declared.marks.Marks.{Marks}
-use Rattle.votes.specs.Votes.{unmarked, bit_of, set_for as markedSet}
+use Rattle.votes.specs.declared.ballot.Round.{Round}
+use Rattle.votes.specs.Votes.{no_round, bit_of, set_for as markedSet}
 use Rattle.votes.proofs.Marking.{marks_none, bit_none, set_none}
 use Rattle.cells.specs.Rows.{Cells, slot_of, place_of}
 use Rattle.cells.proofs.Cellrows.{place_within}
@@ -37,16 +37,12 @@ row_none n w before cells empty st q s j = held_none _ _ (λ g.
     ap (option_map st) (empty.empty (place_of n w q s j) (place_within n w q s j (ltb-true q n r.0) (ltb-true s w r.1) (ltb-true j n p.0))))
 
 -- no votes are held where nothing is marked
-pub vote_none : {A : Type 0} (m : Replica) (table : List Marks) → table ≡ replicate rounds unmarked → (read : Marks → Option A) → read unmarked ≡ None → (st : A → Stmt (List ℕ)) (e k j : ℕ) → vote_cell m table read st e k j ≡ None
-vote_none m table t read none st e k j = held_none _ _ (λ g. ap (option_map st) (ap read (ap (λ x. get_or x k unmarked) t ∙ all_same rounds unmarked k) ∙ none))
+pub vote_none : {A : Type 0} (m : Replica) → m.votes.rounds ≡ replicate rounds no_round → (read : Round → Option A) → read no_round ≡ None → (st : A → Stmt (List ℕ)) (e k j : ℕ) → vote_cell m read st e k j ≡ None
+vote_none m t read none st e k j = held_none _ _ (λ g. ap (option_map st) (ap read (ap (λ x. get_or x k no_round) t ∙ all_same rounds no_round k) ∙ none))
 
 module _ (m : Replica) (s : Numbers) (is : plain m ≡ fresh s) where
   pub sized : Sized m
-  sized = record {
-    values = ap (λ (p : Plain). length p.votes.values) is;
-    seens = ap (λ (p : Plain). length p.votes.seens) is;
-    confirms = ap (λ (p : Plain). length p.votes.confirms) is;
-  }
+  sized = record { long = ap (λ (p : Plain). length p.votes.rounds) is }
 
   module _ (before t : Store) (wiped : Wiped m.set.n m.set.w before t) where
     view_none : (j : ℕ) (c : Cell) → view m t j c ≡ None
@@ -56,9 +52,9 @@ module _ (m : Replica) (s : Numbers) (is : plain m ≡ fresh s) where
     view_none j (at_echo q b) = row_none m.set.n m.set.w before.echoes t.echoes wiped.echoes (echo q b) q b j
     view_none j (at_ready q b) = row_none m.set.n m.set.w before.readies t.readies wiped.readies (ready q b) q b j
     view_none j (at_have q b) = row_none m.set.n m.set.w before.haves t.haves wiped.haves (have q b) q b j
-    view_none j (at_value e k v) = vote_none m m.votes.values (ap (λ (p : Plain). p.votes.values) is) (value_in v j) (ap (λ b. held b (Some v)) (marks_none v j)) (value e k) e k j
-    view_none j (at_seen e k) = vote_none m m.votes.seens (ap (λ (p : Plain). p.votes.seens) is) (λ p. bit_of p j) (bit_none j) (seen e k) e k j
-    view_none j (at_confirm e k) = vote_none m m.votes.confirms (ap (λ (p : Plain). p.votes.confirms) is) (λ p. markedSet p j) (set_none j) (confirm e k) e k j
+    view_none j (at_value e k v) = vote_none m (ap (λ (p : Plain). p.votes.rounds) is) (λ r. value_in v j r.values) (ap (λ b. held b (Some v)) (marks_none v j)) (value e k) e k j
+    view_none j (at_seen e k) = vote_none m (ap (λ (p : Plain). p.votes.rounds) is) (λ r. bit_of r.seens j) (bit_none j) (seen e k) e k j
+    view_none j (at_confirm e k) = vote_none m (ap (λ (p : Plain). p.votes.rounds) is) (λ r. markedSet r.confirms j) (set_none j) (confirm e k) e k j
     view_none j (at_finish e) =
         let past : held (eqb j m.set.me && ltb e m.epoch) (get_or m.past e None) ≡ None = held_none _ (get_or m.past e None) (λ h. ap (λ (p : Plain). get_or p.past e None) is ∙ all_same epochs None e) in
         let now : bit_of m.votes.finish j ≡ None = ap (λ (p : Plain). bit_of p.votes.finish j) is ∙ bit_none j in

@@ -6,9 +6,8 @@ use Rattle.std.proofs.lemmas.Nat.{div-mul-add, mod-mul-add}
 use Rattle.std.proofs.lemmas.Bool.{ltb-true, lt-ltb, eqb-true, and_parts, cases_eq, cases_lt}
 use Rattle.common.specs.Limits.{epochs, rounds}
 use Rattle.theory.specs.Statement.{Stmt}
-use Rattle.votes.specs.declared.marks.Marks.{Marks}
-use Rattle.votes.specs.declared.ballot.Votes.{Votes}
-use Rattle.votes.specs.Votes.{unmarked}
+use Rattle.votes.specs.declared.ballot.Round.{Round}
+use Rattle.votes.specs.Votes.{no_round}
 use Rattle.cells.specs.Rows.{Cells, slot_of, place_of}
 use Rattle.cells.proofs.Cellrows.{place_within}
 use Rattle.replica.specs.declared.state.Replica.{Replica}
@@ -57,20 +56,23 @@ module _ (n w : ℕ) (cells : Cells) (j q s : ℕ) (x : List ℕ) (st : ℕ → 
       let apart : place_of n w a b i ≢ place_of n w q s j = λ e. let k = place_apart n w a b i q s j (ltb-true b w r.1) ls (ltb-true i n p.0) lj e in ne (k.2, k.0, k.1) in
       ap (option_map (st a b)) (get_or-set_other cells (place_of n w q s j) (place_of n w a b i) (Some x) None apart))
 
-module _ {A : Type 0} (m : Replica) (v : Votes) (table : List Marks) (k : ℕ) (f : Marks → Marks) (read : Marks → Option A) (st : A → Stmt (List ℕ)) where
-  pub vote_own : (e j : ℕ) (x : A) → k < length table → (ltb j m.set.n && (ltb k rounds && (ltb e epochs && eqb e m.epoch))) ≡ true → read (f (get_or table k unmarked)) ≡ Some x
-      → vote_cell (with_votes m v) (marked table k f) read st e k j ≡ Some (st x)
-  vote_own e j x l g h = rw (g, get_or-set_same table k (f (get_or table k unmarked)) unmarked l, h)
+module _ {A : Type 0} (m : Replica) (k : ℕ) (f : Round → Round) (read : Round → Option A) (st : A → Stmt (List ℕ)) where
+  abbrev table : List Round
+  table = m.votes.rounds
 
-  pub vote_other : (e a i : ℕ) → (e ≡ m.epoch → a ≡ k → (p : Marks) → read (f p) ≡ read p) → vote_cell (with_votes m v) (marked table k f) read st e a i ≡ vote_cell m table read st e a i
+  pub vote_own : (e j : ℕ) (x : A) → k < length table → (ltb j m.set.n && (ltb k rounds && (ltb e epochs && eqb e m.epoch))) ≡ true → read (f (get_or table k no_round)) ≡ Some x
+      → vote_cell (with_votes m (marked m.votes k f)) read st e k j ≡ Some (st x)
+  vote_own e j x l g h = rw (g, get_or-set_same table k (f (get_or table k no_round)) no_round l, h)
+
+  pub vote_other : (e a i : ℕ) → (e ≡ m.epoch → a ≡ k → (r : Round) → read (f r) ≡ read r) → vote_cell (with_votes m (marked m.votes k f)) read st e a i ≡ vote_cell m read st e a i
   vote_other e a i stays = held_same _ _ _ (λ g.
       let p = and_parts (ltb e epochs) _ (and_parts (ltb a rounds) _ (and_parts (ltb i m.set.n) _ g).1).1 in
       ap (option_map st) (at (eqb-true e m.epoch p.1) (cases_eq a k)))
     where
-      at : e ≡ m.epoch → (a ≡ k) ⊎ (a ≡ k → ⊥) → read (get_or (marked table k f) a unmarked) ≡ read (get_or table a unmarked)
+      at : e ≡ m.epoch → (a ≡ k) ⊎ (a ≡ k → ⊥) → read (get_or ((marked m.votes k f).rounds) a no_round) ≡ read (get_or table a no_round)
       at h (inl e) = rw e (here (cases_lt k (length table)))
         where
-          here : (k < length table) ⊎ (length table ≤ k) → read (get_or (marked table k f) k unmarked) ≡ read (get_or table k unmarked)
-          here (inl l) = ap read (get_or-set_same table k (f (get_or table k unmarked)) unmarked l) ∙ stays h e (get_or table k unmarked)
-          here (inr l) = ap read (get_or_past (marked table k f) k unmarked (simp length-set (omega arith)) ∙ sym (get_or_past table k unmarked l))
-      at h (inr n) = ap read (get_or-set_other table k a (f (get_or table k unmarked)) unmarked n)
+          here : (k < length table) ⊎ (length table ≤ k) → read (get_or ((marked m.votes k f).rounds) k no_round) ≡ read (get_or table k no_round)
+          here (inl l) = ap read (get_or-set_same table k (f (get_or table k no_round)) no_round l) ∙ stays h e (get_or table k no_round)
+          here (inr l) = ap read (get_or_past ((marked m.votes k f).rounds) k no_round (simp length-set (omega arith)) ∙ sym (get_or_past table k no_round l))
+      at h (inr n) = ap read (get_or-set_other table k a (f (get_or table k no_round)) no_round n)

@@ -11,14 +11,15 @@ use Rattle.theory.specs.Calls.{ranged}
 use Rattle.theory.specs.Turns.{set_of}
 use Rattle.theory.proofs.Memory.{put_new, put_other, put_away}
 use Rattle.votes.specs.declared.marks.Marks.{Marks}
+use Rattle.votes.specs.declared.ballot.Round.{Round}
 use Rattle.votes.specs.Sets.{in_set}
-use Rattle.votes.specs.Votes.{unmarked, marks, bit_of, set_for, mark, with_set}
+use Rattle.votes.specs.Votes.{no_round, marks, bit_of, set_for, mark, with_set}
 use Rattle.votes.proofs.Marking.{bit_other, bit_own, set_other, set_own, marks_own, marks_rest, marked}
 use Rattle.cells.specs.Rows.{Cells, slot_of, place_of}
 use Rattle.replica.specs.declared.state.Replica.{Replica}
 use Rattle.replica.specs.Store.{Store, fits}
 use Rattle.replica.specs.View.{held, row_cell, value_in, vote_cell, view, plan, box}
-use Rattle.replica.specs.Holding.{Sized, entered, marked as marked-at, held_of}
+use Rattle.replica.specs.Holding.{Sized, with_values, with_seens, with_confirms, entered, held_of}
 use Rattle.replica.proofs.Placing.{send_own, send_other, row_own, row_other, vote_own, vote_other}
 
 -- the tables are long enough
@@ -60,7 +61,7 @@ none_mapped f (Some a) e = cc
 slot_within : (n w q s : ℕ) → q < n → s < w → slot_of w q s < n * w
 slot_within n w q s a b = omega (arith, mul-add-lt q w s n a b)
 
-in_round : (k : ℕ) (table : List Marks) → length table ≡ rounds → ltb k rounds ≡ true → k < length table
+in_round : (k : ℕ) (table : List Round) → length table ≡ rounds → ltb k rounds ≡ true → k < length table
 in_round k table e r = omega (arith, e, ltb-true k rounds r)
 
 cond_same : {A : Type 0} (b : Bool) (x y z : A) → (b ≡ true → x ≡ y) → cond b x z ≡ cond b y z
@@ -119,8 +120,8 @@ module _ (m : Replica) (t : Store) (j : ℕ) (sized : Sized m) (lent : fits m.se
   current : (e : ℕ) → (ltb e epochs && eqb e m.epoch) ≡ true → e ≡ m.epoch
   current e r = eqb-true e m.epoch (and_parts (ltb e epochs) _ r).1
 
-  free_round : {A : Type 0} (table : List Marks) (read : Marks → Option A) (st : A → Stmt (List ℕ)) (k e : ℕ) → (ltb k rounds && (ltb e epochs && eqb e m.epoch)) ≡ true → vote_cell m table read st e k j ≡ None → read (get_or table k unmarked) ≡ None
-  free_round table read st k e r free = none_mapped st _ (sym (cond-true _ _ None (guard k e r)) ∙ free)
+  free_round : {A : Type 0} (read : Round → Option A) (st : A → Stmt (List ℕ)) (k e : ℕ) → (ltb k rounds && (ltb e epochs && eqb e m.epoch)) ≡ true → vote_cell m read st e k j ≡ None → read (get_or m.votes.rounds k no_round) ≡ None
+  free_round read st k e r free = none_mapped st _ (sym (cond-true _ _ None (guard k e r)) ∙ free)
 
   own : (st : Stmt (List ℕ)) → ranged (plan m) (box m t) st ≡ true → Vacant m t j st → Own st
   own (sends s x) r free = send_own m.set.w t.sends j s x sends m.set.n lj (ltb-true s _ r) (omega (arith, slot_within m.set.n m.set.w j s lj (ltb-true s _ r), long.sends))
@@ -128,13 +129,13 @@ module _ (m : Replica) (t : Store) (j : ℕ) (sized : Sized m) (lent : fits m.se
   own (ready q s x) r free = let p = and_parts _ _ r in row_own m.set.n m.set.w t.readies j q s x ready lj (ltb-true q _ p.0) (ltb-true s _ p.1) long.readies
   own (have q s x) r free = let p = and_parts _ _ r in row_own m.set.n m.set.w t.haves j q s x have lj (ltb-true q _ p.0) (ltb-true s _ p.1) long.haves
   own (value e k v) r free =
-      vote_own m (held_of m t j (value e k v)).0.votes m.votes.values k (λ p. mark p v j) (value_in v j) (value e k) e j v (in_round k m.votes.values sized.values (and_parts (ltb k rounds) _ r).0) (guard k e r) (rw (marks_own (get_or m.votes.values k unmarked) v j) refl)
+      vote_own m k (with_values (λ p. mark p v j)) (λ x. value_in v j x.values) (value e k) e j v (in_round k m.votes.rounds sized.long (and_parts (ltb k rounds) _ r).0) (guard k e r) (rw (marks_own (get_or m.votes.rounds k no_round).values v j) refl)
   own (seen e k v) r free =
-      vote_own m (held_of m t j (seen e k v)).0.votes m.votes.seens k (λ p. mark p v j) (λ p. bit_of p j) (seen e k) e j v (in_round k m.votes.seens sized.seens (and_parts (ltb k rounds) _ r).0) (guard k e r)
-      (bit_own (get_or m.votes.seens k unmarked) v j (free_round m.votes.seens (λ p. bit_of p j) (seen e k) k e r free))
+      vote_own m k (with_seens (λ p. mark p v j)) (λ x. bit_of x.seens j) (seen e k) e j v (in_round k m.votes.rounds sized.long (and_parts (ltb k rounds) _ r).0) (guard k e r)
+      (bit_own (get_or m.votes.rounds k no_round).seens v j (free_round (λ x. bit_of x.seens j) (seen e k) k e r free))
   own (confirm e k u) r free =
-      vote_own m (held_of m t j (confirm e k u)).0.votes m.votes.confirms k (λ p. with_set p (in_set u false) (in_set u true) j) (λ p. set_for p j) (confirm e k) e j u (in_round k m.votes.confirms sized.confirms (and_parts (ltb k rounds) _ r).0) (guard k e r)
-      (set_own (get_or m.votes.confirms k unmarked) (in_set u false) (in_set u true) j (free_round m.votes.confirms (λ p. set_for p j) (confirm e k) k e r free) ∙ set_in u)
+      vote_own m k (with_confirms (λ p. with_set p (in_set u false) (in_set u true) j)) (λ x. set_for x.confirms j) (confirm e k) e j u (in_round k m.votes.rounds sized.long (and_parts (ltb k rounds) _ r).0) (guard k e r)
+      (set_own (get_or m.votes.rounds k no_round).confirms (in_set u false) (in_set u true) j (free_round (λ x. set_for x.confirms j) (confirm e k) k e r free) ∙ set_in u)
   own (finish e v) r free =
       let p = and_parts (ltb e epochs) _ r in
       let g : (ltb j m.set.n && ltb e epochs) ≡ true = and_from _ _ (lt-ltb j m.set.n lj) p.0 in
@@ -164,18 +165,24 @@ module _ (m : Replica) (t : Store) (j : ℕ) (sized : Sized m) (lent : fits m.se
       (λ b h. refl) (λ a b h. refl) (λ a b h. refl) (row_else have at_have t.haves q s x r i c ne) (λ a b v h. refl) (λ a b h. refl) (λ a b h. refl) (λ a h. refl)
   other (value e k v) r i c ne = by_letter (λ d. view (held_of m t j (value e k v)).0 t i d ≡ view m t i d) c
       (λ b h. refl) (λ a b h. refl) (λ a b h. refl) (λ a b h. refl)
-      (λ a b u h. vote_other m (held_of m t j (value e k v)).0.votes m.votes.values k (λ p. mark p v j) (value_in u i) (value a b) a b i (λ now here p.
-      ap (λ x. held x (Some u)) (value_other p v j i u (λ same. ne (same.0, at_vote (λ y z. at_value y z v) e k r c a b (h ∙ ap (at_value a b) same.1) now here)))))
-      (λ a b h. refl) (λ a b h. refl) (λ a h. refl)
+      (λ a b u h. vote_other m k (with_values (λ p. mark p v j)) (λ x. value_in u i x.values) (value a b) a b i (λ now here x.
+      ap (λ y. held y (Some u)) (value_other x.values v j i u (λ same. ne (same.0, at_vote (λ y z. at_value y z v) e k r c a b (h ∙ ap (at_value a b) same.1) now here)))))
+      (λ a b h. vote_other m k (with_values (λ p. mark p v j)) (λ x. bit_of x.seens i) (seen a b) a b i (λ now here x. refl))
+      (λ a b h. vote_other m k (with_values (λ p. mark p v j)) (λ x. set_for x.confirms i) (confirm a b) a b i (λ now here x. refl))
+      (λ a h. refl)
   other (seen e k v) r i c ne = by_letter (λ d. view (held_of m t j (seen e k v)).0 t i d ≡ view m t i d) c
-      (λ b h. refl) (λ a b h. refl) (λ a b h. refl) (λ a b h. refl) (λ a b u h. refl)
-      (λ a b h. vote_other m (held_of m t j (seen e k v)).0.votes m.votes.seens k (λ p. mark p v j) (λ p. bit_of p i) (seen a b) a b i (λ now here p.
-      bit_other p (not v) v j i (λ same. ne (same, at_vote at_seen e k r c a b h now here))))
-      (λ a b h. refl) (λ a h. refl)
+      (λ b h. refl) (λ a b h. refl) (λ a b h. refl) (λ a b h. refl)
+      (λ a b u h. vote_other m k (with_seens (λ p. mark p v j)) (λ x. value_in u i x.values) (value a b) a b i (λ now here x. refl))
+      (λ a b h. vote_other m k (with_seens (λ p. mark p v j)) (λ x. bit_of x.seens i) (seen a b) a b i (λ now here x.
+      bit_other x.seens (not v) v j i (λ same. ne (same, at_vote at_seen e k r c a b h now here))))
+      (λ a b h. vote_other m k (with_seens (λ p. mark p v j)) (λ x. set_for x.confirms i) (confirm a b) a b i (λ now here x. refl))
+      (λ a h. refl)
   other (confirm e k u) r i c ne = by_letter (λ d. view (held_of m t j (confirm e k u)).0 t i d ≡ view m t i d) c
-      (λ b h. refl) (λ a b h. refl) (λ a b h. refl) (λ a b h. refl) (λ a b v h. refl) (λ a b h. refl)
-      (λ a b h. vote_other m (held_of m t j (confirm e k u)).0.votes m.votes.confirms k (λ p. with_set p (in_set u false) (in_set u true) j) (λ p. set_for p i) (confirm a b) a b i (λ now here p.
-      set_other p (in_set u false) (in_set u true) j i (λ same. ne (same, at_vote at_confirm e k r c a b h now here))))
+      (λ b h. refl) (λ a b h. refl) (λ a b h. refl) (λ a b h. refl)
+      (λ a b v h. vote_other m k (with_confirms (λ p. with_set p (in_set u false) (in_set u true) j)) (λ x. value_in v i x.values) (value a b) a b i (λ now here x. refl))
+      (λ a b h. vote_other m k (with_confirms (λ p. with_set p (in_set u false) (in_set u true) j)) (λ x. bit_of x.seens i) (seen a b) a b i (λ now here x. refl))
+      (λ a b h. vote_other m k (with_confirms (λ p. with_set p (in_set u false) (in_set u true) j)) (λ x. set_for x.confirms i) (confirm a b) a b i (λ now here x.
+      set_other x.confirms (in_set u false) (in_set u true) j i (λ same. ne (same, at_vote at_confirm e k r c a b h now here))))
       (λ a h. refl)
   other (finish e v) r i c ne = by_letter (λ d. view (held_of m t j (finish e v)).0 t i d ≡ view m t i d) c
       (λ b h. refl) (λ a b h. refl) (λ a b h. refl) (λ a b h. refl) (λ a b u h. refl) (λ a b h. refl) (λ a b h. refl)
@@ -202,15 +209,12 @@ module _ (m : Replica) (t : Store) (j : ℕ) (sized : Sized m) (lent : fits m.se
   pub box_held : (st : Stmt (List ℕ)) → ranged (plan m) (box m t) st ≡ true → view m t j (cell st) ≡ None → box (held_of m t j st).0 (held_of m t j st).1 ≡ small (hears j st) (box m t)
   box_held st r free = box_put st r (vacated m t j st free)
 
-marked_long : (table : List Marks) (k : ℕ) (f : Marks → Marks) → length table ≡ rounds → length (marked-at table k f) ≡ rounds
-marked_long table k f e = length-set table k (f (get_or table k unmarked)) ∙ e
-
 pub sized_held : (m : Replica) (t : Store) (j : ℕ) (st : Stmt (List ℕ)) → Sized m → Sized (held_of m t j st).0
 sized_held m t j (sends s x) z = z
 sized_held m t j (echo q s x) z = z
 sized_held m t j (ready q s x) z = z
 sized_held m t j (have q s x) z = z
-sized_held m t j (value e k v) z = record { values = marked_long m.votes.values k (λ p. mark p v j) z.values; seens = z.seens; confirms = z.confirms }
-sized_held m t j (seen e k v) z = record { values = z.values; seens = marked_long m.votes.seens k (λ p. mark p v j) z.seens; confirms = z.confirms }
-sized_held m t j (confirm e k u) z = record { values = z.values; seens = z.seens; confirms = marked_long m.votes.confirms k (λ p. with_set p (in_set u false) (in_set u true) j) z.confirms }
-sized_held m t j (finish e v) z = record { values = z.values; seens = z.seens; confirms = z.confirms }
+sized_held m t j (value e k v) z = record { long = length-set m.votes.rounds k (with_values (λ p. mark p v j) (get_or m.votes.rounds k no_round)) ∙ z.long }
+sized_held m t j (seen e k v) z = record { long = length-set m.votes.rounds k (with_seens (λ p. mark p v j) (get_or m.votes.rounds k no_round)) ∙ z.long }
+sized_held m t j (confirm e k u) z = record { long = length-set m.votes.rounds k (with_confirms (λ p. with_set p (in_set u false) (in_set u true) j) (get_or m.votes.rounds k no_round)) ∙ z.long }
+sized_held m t j (finish e v) z = record { long = z.long }

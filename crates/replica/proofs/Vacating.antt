@@ -10,7 +10,7 @@ use Rattle.votes.specs.contracts.bits.BitsPartialEq.TheImpl as sets
 use Rattle.votes.specs.declared.bits.Bits.{Bits}
 use Rattle.votes.specs.declared.bits.Bits.TheVariants.{Only, Both}
 use Rattle.votes.specs.Sets.{bits_of}
-use Rattle.votes.specs.Votes.{unmarked, bit_of, set_for}
+use Rattle.votes.specs.Votes.{no_round, bit_of, set_for}
 use Rattle.replica.specs.declared.state.Replica.{Replica}
 use Rattle.replica.specs.Store.{Store}
 use Rattle.replica.specs.View.{held, plan, box, bytes_same}
@@ -60,11 +60,11 @@ settled_at eq st told guard g o there is x =
     ∙ ap (λ p. settled (StmtEq bytes_same) p (st x)) (is ∙ sym (cond-true guard there None g))
 
 module _ (m : Replica) (t : Store) (j : ℕ) (lj : j < m.set.n) where
-  pub seen_vacant : (e k : ℕ) (v : Bool) (o : Option Bool) → ranged (plan m) (box m t) (seen e k v) ≡ true → o ≡ bit_of (get_or m.votes.seens k unmarked) j → settled_by beq o v ≡ vacant_of m t j (seen e k v)
+  pub seen_vacant : (e k : ℕ) (v : Bool) (o : Option Bool) → ranged (plan m) (box m t) (seen e k v) ≡ true → o ≡ bit_of (get_or m.votes.rounds k no_round).seens j → settled_by beq o v ≡ vacant_of m t j (seen e k v)
   seen_vacant e k v o r is =
       settled_at beq (seen e k) (carried_told beq (λ x. x) (seen e k) bits_told (λ x y h. cc)) _ (and_from _ _ (lt-ltb j m.set.n lj) r) o _ (ap (option_map (seen e k)) is) v
 
-  pub confirm_vacant : (e k : ℕ) (u : Bits) (o : Option Bits) → ranged (plan m) (box m t) (confirm e k (bits_of u)) ≡ true → option_map bits_of o ≡ set_for (get_or m.votes.confirms k unmarked) j → settled_by sets.eq-value.it o u ≡ vacant_of m t j (confirm e k (bits_of u))
+  pub confirm_vacant : (e k : ℕ) (u : Bits) (o : Option Bits) → ranged (plan m) (box m t) (confirm e k (bits_of u)) ≡ true → option_map bits_of o ≡ set_for (get_or m.votes.rounds k no_round).confirms j → settled_by sets.eq-value.it o u ≡ vacant_of m t j (confirm e k (bits_of u))
   confirm_vacant e k u o r is =
       settled_at sets.eq-value.it (λ x. confirm e k (bits_of x)) (carried_told sets.eq-value.it bits_of (confirm e k) sets_told (λ x y h. cc)) _ (and_from _ _ (lt-ltb j m.set.n lj) r) o _
       (carried bits_of (confirm e k) o ∙ ap (option_map (confirm e k)) is) u

@@ -6,9 +6,10 @@ use Rattle.common.specs.declared.refusal.Refusal.TheVariants.{Held, Other}
 use Rattle.theory.specs.Statement.{Stmt, sends, echo, ready, have, value, seen, confirm, finish, StmtEq, cell, decided}
 use Rattle.theory.specs.Machine.{small, hears}
 use Rattle.votes.specs.declared.marks.Marks.{Marks}
+use Rattle.votes.specs.declared.ballot.Round.{Round}
 use Rattle.votes.specs.declared.ballot.Votes.{Votes}
 use Rattle.votes.specs.Sets.{in_set}
-use Rattle.votes.specs.Votes.{unmarked, mark, with_set}
+use Rattle.votes.specs.Votes.{no_round, mark, with_set}
 use Rattle.cells.specs.Rows.{Cells, slot_of, place_of}
 use Rattle.replica.specs.declared.state.Replica.{Replica}
 use Rattle.replica.specs.Store.{Store}
@@ -30,11 +31,9 @@ settled d = settled_by (λ y x. decided (d y x))
 abbrev pub vacant_of : Replica → Store → ℕ → Stmt (List ℕ) → Result (Unit {0}) ℕ
 vacant_of m t j st = settled (StmtEq bytes_same) (view m t j (cell st)) st
 
--- There are marks for each round: a fact of the arrays' type, which these definitions see as lists.
+-- There are votes for each round: a fact of the array's type, which these definitions see as a list.
 pub record Sized (m : Replica) : Type 0 where
-  pub values : length m.votes.values ≡ rounds
-  pub seens : length m.votes.seens ≡ rounds
-  pub confirms : length m.votes.confirms ≡ rounds
+  pub long : length m.votes.rounds ≡ rounds
 
 abbrev pub with_sends : Store → Cells → Store
 with_sends t c = record { sends = c; echoes = t.echoes; readies = t.readies; haves = t.haves; pages = t.pages }
@@ -51,24 +50,28 @@ with_haves t c = record { sends = t.sends; echoes = t.echoes; readies = t.readie
 abbrev pub with_votes : Replica → Votes → Replica
 with_votes m v = record { set = m.set; epoch = m.epoch; stage = m.stage; votes = v; past = m.past; heads = m.heads; pages = m.pages }
 
-abbrev pub with_values : Votes → List Marks → Votes
-with_values v p = record { values = p; seens = v.seens; confirms = v.confirms; finish = v.finish }
-
-abbrev pub with_seens : Votes → List Marks → Votes
-with_seens v p = record { values = v.values; seens = p; confirms = v.confirms; finish = v.finish }
-
-abbrev pub with_confirms : Votes → List Marks → Votes
-with_confirms v p = record { values = v.values; seens = v.seens; confirms = p; finish = v.finish }
+abbrev pub with_rounds : Votes → List Round → Votes
+with_rounds v r = record { rounds = r; finish = v.finish }
 
 abbrev pub with_finish : Votes → Marks → Votes
-with_finish v p = record { values = v.values; seens = v.seens; confirms = v.confirms; finish = p }
+with_finish v p = record { rounds = v.rounds; finish = p }
+
+-- a round in which the values, the seens or the confirms are marked as well
+abbrev pub with_values : (Marks → Marks) → Round → Round
+with_values f r = record { values = f r.values; seens = r.seens; confirms = r.confirms }
+
+abbrev pub with_seens : (Marks → Marks) → Round → Round
+with_seens f r = record { values = r.values; seens = f r.seens; confirms = r.confirms }
+
+abbrev pub with_confirms : (Marks → Marks) → Round → Round
+with_confirms f r = record { values = r.values; seens = r.seens; confirms = f r.confirms }
 
 -- an entry is held at a place; round k is marked as well
 abbrev pub entered : Cells → ℕ → List ℕ → Cells
 entered cells at x = slice_set cells at (Some x)
 
-abbrev pub marked : List Marks → ℕ → (Marks → Marks) → List Marks
-marked table k f = slice_set table k (f (slice_index_or table k unmarked))
+abbrev pub marked : Votes → ℕ → (Round → Round) → Votes
+marked v k f = with_rounds v (slice_set v.rounds k (f (slice_index_or v.rounds k no_round)))
 
 -- sender j's statement is held: one cell is filled, and no other is altered
 abbrev pub held_of : Replica → Store → ℕ → Stmt (List ℕ) → Replica × Store
@@ -76,9 +79,9 @@ held_of m t j (sends s x) = (m, with_sends t (entered t.sends (slot_of m.set.w j
 held_of m t j (echo q s x) = (m, with_echoes t (entered t.echoes (place_of m.set.n m.set.w q s j) x))
 held_of m t j (ready q s x) = (m, with_readies t (entered t.readies (place_of m.set.n m.set.w q s j) x))
 held_of m t j (have q s x) = (m, with_haves t (entered t.haves (place_of m.set.n m.set.w q s j) x))
-held_of m t j (value e k v) = (with_votes m (with_values m.votes (marked m.votes.values k (λ p. mark p v j))), t)
-held_of m t j (seen e k v) = (with_votes m (with_seens m.votes (marked m.votes.seens k (λ p. mark p v j))), t)
-held_of m t j (confirm e k u) = (with_votes m (with_confirms m.votes (marked m.votes.confirms k (λ p. with_set p (in_set u false) (in_set u true) j))), t)
+held_of m t j (value e k v) = (with_votes m (marked m.votes k (with_values (λ p. mark p v j))), t)
+held_of m t j (seen e k v) = (with_votes m (marked m.votes k (with_seens (λ p. mark p v j))), t)
+held_of m t j (confirm e k u) = (with_votes m (marked m.votes k (with_confirms (λ p. with_set p (in_set u false) (in_set u true) j))), t)
 held_of m t j (finish e v) = (with_votes m (with_finish m.votes (mark m.votes.finish v j)), t)
 
 -- In the theory's words: where the cell was free, the box has heard the statement.

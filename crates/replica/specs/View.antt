@@ -9,7 +9,8 @@ use Rattle.theory.specs.Plan.{Plan}
 use Rattle.theory.specs.Book.{Page}
 use Rattle.theory.specs.Machine.{Mem, Stage, unopened, awaiting, running, Box}
 use Rattle.votes.specs.declared.marks.Marks.{Marks}
-use Rattle.votes.specs.Votes.{unmarked, marks, bit_of, set_for}
+use Rattle.votes.specs.declared.ballot.Round.{Round}
+use Rattle.votes.specs.Votes.{no_round, marks, bit_of, set_for}
 use Rattle.cells.specs.Rows.{Cells, slot_of, place_of}
 use Rattle.replica.specs.declared.state.Replica.{Replica}
 use Rattle.replica.specs.declared.state.Stage as declared
@@ -24,9 +25,9 @@ held b o = cond b o None
 abbrev pub row_cell : ℕ → ℕ → Cells → (List ℕ → Stmt (List ℕ)) → ℕ → ℕ → ℕ → Option (Stmt (List ℕ))
 row_cell n w cells st q s j = held (nat_lt j n && (nat_lt q n && nat_lt s w)) (option_map st (slice_index_or cells (place_of n w q s j) None))
 
--- the vote that read finds in the marks of round k, if the epoch is the current one, and of the week
-abbrev pub vote_cell : {A : Type 0} → Replica → List Marks → (Marks → Option A) → (A → Stmt (List ℕ)) → ℕ → ℕ → ℕ → Option (Stmt (List ℕ))
-vote_cell m table read st e k j = held (nat_lt j m.set.n && (nat_lt k rounds && (nat_lt e epochs && e == m.epoch))) (option_map st (read (slice_index_or table k unmarked)))
+-- the vote that read finds in round k, if the epoch is the current one, and of the week
+abbrev pub vote_cell : {A : Type 0} → Replica → (Round → Option A) → (A → Stmt (List ℕ)) → ℕ → ℕ → ℕ → Option (Stmt (List ℕ))
+vote_cell m read st e k j = held (nat_lt j m.set.n && (nat_lt k rounds && (nat_lt e epochs && e == m.epoch))) (option_map st (read (slice_index_or m.votes.rounds k no_round)))
 
 -- a value has a cell of its own for each bit
 abbrev pub value_in : Bool → ℕ → Marks → Option Bool
@@ -42,9 +43,9 @@ view m t j (at_send s) = held (nat_lt j m.set.n && nat_lt s m.set.w) (option_map
 view m t j (at_echo q s) = row_cell m.set.n m.set.w t.echoes (echo q s) q s j
 view m t j (at_ready q s) = row_cell m.set.n m.set.w t.readies (ready q s) q s j
 view m t j (at_have q s) = row_cell m.set.n m.set.w t.haves (have q s) q s j
-view m t j (at_value e k v) = vote_cell m m.votes.values (value_in v j) (value e k) e k j
-view m t j (at_seen e k) = vote_cell m m.votes.seens (λ p. bit_of p j) (seen e k) e k j
-view m t j (at_confirm e k) = vote_cell m m.votes.confirms (λ p. set_for p j) (confirm e k) e k j
+view m t j (at_value e k v) = vote_cell m (λ r. value_in v j r.values) (value e k) e k j
+view m t j (at_seen e k) = vote_cell m (λ r. bit_of r.seens j) (seen e k) e k j
+view m t j (at_confirm e k) = vote_cell m (λ r. set_for r.confirms j) (confirm e k) e k j
 view m t j (at_finish e) = finish_cell m e j
 
 abbrev pub bytes_same : Discrete (List ℕ)

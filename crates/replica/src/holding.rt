@@ -49,17 +49,17 @@ impl Replica {
                 item,
             ),
             Claim::Value { round, bit, .. } => {
-                if self.votes.values[round as usize].has(bit, sender) {
+                if self.votes.rounds[round as usize].values.has(bit, sender) {
                     return Err(Refusal::Held);
                 }
                 Ok(())
             }
             Claim::Seen { round, bit, .. } => settle(
-                self.votes.seens[round as usize].bit(sender),
+                self.votes.rounds[round as usize].seens.bit(sender),
                 bit,
             ),
             Claim::Confirm { round, set, .. } => settle(
-                self.votes.confirms[round as usize].set(sender),
+                self.votes.rounds[round as usize].confirms.set(sender),
                 set,
             ),
             Claim::Finish { bit, .. } => settle(self.votes.finish.bit(sender), bit),
@@ -97,16 +97,16 @@ impl Replica {
                 .haves
                 .hold(place(queue, slot, sender, n, w), item),
             Claim::Value { round, bit, .. } => {
-                let k = round as usize;
-                self.votes.values[k] = self.votes.values[k].mark(bit, sender);
+                let round = &mut self.votes.rounds[round as usize];
+                round.values = round.values.mark(bit, sender);
             }
             Claim::Seen { round, bit, .. } => {
-                let k = round as usize;
-                self.votes.seens[k] = self.votes.seens[k].mark(bit, sender);
+                let round = &mut self.votes.rounds[round as usize];
+                round.seens = round.seens.mark(bit, sender);
             }
             Claim::Confirm { round, set, .. } => {
-                let k = round as usize;
-                self.votes.confirms[k] = self.votes.confirms[k].mark_set(Some(set), sender);
+                let round = &mut self.votes.rounds[round as usize];
+                round.confirms = round.confirms.mark_set(Some(set), sender);
             }
             Claim::Finish { bit, .. } => {
                 self.votes.finish = self.votes.finish.mark(bit, sender);

@@ -29,7 +29,7 @@ pub fn settle<T: PartialEq + Copy>(held: Option<T>, item: T) -> Result<(), Refus
 }
 
 // It is held already: the same, or another.
-pub fn taken(same: bool) -> Result<(), Refusal>
+fn taken(same: bool) -> Result<(), Refusal>
     ensures { numbered result ≡ taken_of same }
 {
     if same {

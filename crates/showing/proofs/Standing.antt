@@ -8,8 +8,8 @@ use Rattle.std.proofs.ByRecursion.{has_get_or, has_append_left, has_append_right
 use Rattle.std.proofs.lemmas.Bool.{and_parts, ltb-true, eqb-true, le-ltb}
 use Rattle.common.specs.Limits.{epochs, rounds}
 use Rattle.theory.specs.Statement.{Stmt, sends, echo, ready, have, value, seen, confirm, finish, Cell, cell, at_send, at_echo, at_ready, at_have, at_value, at_seen, at_confirm, at_finish, entry_stated}
-use Rattle.votes.specs.declared.marks.Marks.{Marks}
-use Rattle.votes.specs.Votes.{unmarked, bit_of, set_for}
+use Rattle.votes.specs.declared.ballot.Round.{Round}
+use Rattle.votes.specs.Votes.{no_round, bit_of, set_for}
 use Rattle.cells.specs.Rows.{Cells}
 use Rattle.wire.specs.Codec.{unfit, misfit, oversize}
 use Rattle.wire.proofs.Reading.{byte_fits}
@@ -139,10 +139,10 @@ module _ (m : Replica) (r : Stmt (List ℕ)) (j : ℕ) where
       }
 
   vote_stands :
-      {A : Type 0} (table : List Marks) (read : Marks → Option A) (st : A → Stmt (List ℕ)) (e k d : ℕ) → d < 4
-      → ((x : A) → read (get_or table k unmarked) ≡ Some x → cell (st x) ≡ by_kind e k d) → ((w : ℕ) (x : A) → unfit w (spoken (st x)) ≡ oversize e)
-      → vote_cell m table read st e k j ≡ Some r → Stands m (by_kind e k d) r
-  vote_stands table read st e k d low cell_of unfitOf is =
+      {A : Type 0} (read : Round → Option A) (st : A → Stmt (List ℕ)) (e k d : ℕ) → d < 4
+      → ((x : A) → read (get_or m.votes.rounds k no_round) ≡ Some x → cell (st x) ≡ by_kind e k d) → ((w : ℕ) (x : A) → unfit w (spoken (st x)) ≡ oversize e)
+      → vote_cell m read st e k j ≡ Some r → Stands m (by_kind e k d) r
+  vote_stands read st e k d low cell_of unfitOf is =
       let f = held_found st r _ _ is in
       let p = and_parts _ _ (and_parts _ _ f.holds).1 in
       let q = and_parts _ _ p.1 in
@@ -165,10 +165,10 @@ module _ (m : Replica) (r : Stmt (List ℕ)) (j : ℕ) where
   stands t (at_echo q s) e = row_stands at_echo echo t.echoes q s (λ x. refl) (λ x. refl) (λ w x. refl) (λ h. past_sends m (at_echo q s) (has_append_left (rows m (at_echo q s) at_echo) (readies m (at_echo q s)) (at_echo q s) h)) e
   stands t (at_ready q s) e = row_stands at_ready ready t.readies q s (λ x. refl) (λ x. refl) (λ w x. refl) (λ h. past_echoes m (at_ready q s) (has_append_left (rows m (at_ready q s) at_ready) (haves m (at_ready q s)) (at_ready q s) h)) e
   stands t (at_have q s) e = row_stands at_have have t.haves q s (λ x. refl) (λ x. refl) (λ w x. refl) (λ h. past_readies m (at_have q s) (has_append_left (rows m (at_have q s) at_have) (ends m (at_have q s)) (at_have q s) h)) e
-  stands t (at_value e k false) is = vote_stands m.votes.values (value_in false j) (value e k) e k 0 (omega arith) (λ x h. ap (at_value e k) (held_same _ x false h)) (λ w x. refl) is
-  stands t (at_value e k true) is = vote_stands m.votes.values (value_in true j) (value e k) e k 1 (omega arith) (λ x h. ap (at_value e k) (held_same _ x true h)) (λ w x. refl) is
-  stands t (at_seen e k) is = vote_stands m.votes.seens (λ p. bit_of p j) (seen e k) e k 2 (omega arith) (λ x _. refl) (λ w x. refl) is
-  stands t (at_confirm e k) is = vote_stands m.votes.confirms (λ p. set_for p j) (confirm e k) e k 3 (omega arith) (λ x _. refl) (λ w x. refl) is
+  stands t (at_value e k false) is = vote_stands (λ x. value_in false j x.values) (value e k) e k 0 (omega arith) (λ x h. ap (at_value e k) (held_same _ x false h)) (λ w x. refl) is
+  stands t (at_value e k true) is = vote_stands (λ x. value_in true j x.values) (value e k) e k 1 (omega arith) (λ x h. ap (at_value e k) (held_same _ x true h)) (λ w x. refl) is
+  stands t (at_seen e k) is = vote_stands (λ x. bit_of x.seens j) (seen e k) e k 2 (omega arith) (λ x _. refl) (λ w x. refl) is
+  stands t (at_confirm e k) is = vote_stands (λ x. set_for x.confirms j) (confirm e k) e k 3 (omega arith) (λ x _. refl) (λ w x. refl) is
   stands t (at_finish e) is =
       let d = found_held (finish e) r _ _ is in
       let low = ltb-true _ _ (and_parts _ _ d.holds).1 in
@@ -198,9 +198,9 @@ module _ (w : ℕ) (m : Replica) (t : Store) (wide : Wide w t) (r : Stmt (List �
   broad (at_echo q s) e = entry_broad (echo q s) (λ y. refl) t.echoes _ wide.echoes (ltb j m.set.n && (ltb q m.set.n && ltb s m.set.w)) e
   broad (at_ready q s) e = entry_broad (ready q s) (λ y. refl) t.readies _ wide.readies (ltb j m.set.n && (ltb q m.set.n && ltb s m.set.w)) e
   broad (at_have q s) e = entry_broad (have q s) (λ y. refl) t.haves _ wide.haves (ltb j m.set.n && (ltb q m.set.n && ltb s m.set.w)) e
-  broad (at_value n k v) e = vote_broad (value n k) (λ y. refl) (ltb j m.set.n && (ltb k rounds && (ltb n epochs && eqb n m.epoch))) (value_in v j (get_or m.votes.values k unmarked)) e
-  broad (at_seen n k) e = vote_broad (seen n k) (λ y. refl) (ltb j m.set.n && (ltb k rounds && (ltb n epochs && eqb n m.epoch))) (bit_of (get_or m.votes.seens k unmarked) j) e
-  broad (at_confirm n k) e = vote_broad (confirm n k) (λ y. refl) (ltb j m.set.n && (ltb k rounds && (ltb n epochs && eqb n m.epoch))) (set_for (get_or m.votes.confirms k unmarked) j) e
+  broad (at_value n k v) e = vote_broad (value n k) (λ y. refl) (ltb j m.set.n && (ltb k rounds && (ltb n epochs && eqb n m.epoch))) (value_in v j (get_or m.votes.rounds k no_round).values) e
+  broad (at_seen n k) e = vote_broad (seen n k) (λ y. refl) (ltb j m.set.n && (ltb k rounds && (ltb n epochs && eqb n m.epoch))) (bit_of (get_or m.votes.rounds k no_round).seens j) e
+  broad (at_confirm n k) e = vote_broad (confirm n k) (λ y. refl) (ltb j m.set.n && (ltb k rounds && (ltb n epochs && eqb n m.epoch))) (set_for (get_or m.votes.rounds k no_round).confirms j) e
   broad (at_finish n) e = vote_broad (finish n) (λ y. refl) true _ e
 
 -- what is read at a place stands in some cell

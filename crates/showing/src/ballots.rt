@@ -61,7 +61,10 @@ fn value_at<K: Entry>(replica: &Replica, round: u8, bit: bool) -> Option<Claim<K
     requires early { replica.now.epoch < 256 }
     ensures { (t : Store) → option_map (claim_of K.bytes) result ≡ own (box replica.now t) (at_value replica.now.epoch round bit) }
 {
-    if replica.votes.values[round as usize].has(bit, replica.set.me) {
+    if replica.votes.rounds[round as usize]
+        .values
+        .has(bit, replica.set.me)
+    {
         Some(Claim::Value {
             epoch: replica.epoch,
             round,
@@ -77,7 +80,10 @@ fn seen_at<K: Entry>(replica: &Replica, round: u8) -> Option<Claim<K>>
     requires early { replica.now.epoch < 256 }
     ensures { (t : Store) → option_map (claim_of K.bytes) result ≡ own (box replica.now t) (at_seen replica.now.epoch round) }
 {
-    match replica.votes.seens[round as usize].bit(replica.set.me) {
+    match replica.votes.rounds[round as usize]
+        .seens
+        .bit(replica.set.me)
+    {
         Some(bit) => Some(Claim::Seen {
             epoch: replica.epoch,
             round,
@@ -92,7 +98,10 @@ fn confirm_at<K: Entry>(replica: &Replica, round: u8) -> Option<Claim<K>>
     requires early { replica.now.epoch < 256 }
     ensures { (t : Store) → option_map (claim_of K.bytes) result ≡ own (box replica.now t) (at_confirm replica.now.epoch round) }
 {
-    match replica.votes.confirms[round as usize].set(replica.set.me) {
+    match replica.votes.rounds[round as usize]
+        .confirms
+        .set(replica.set.me)
+    {
         Some(set) => Some(Claim::Confirm {
             epoch: replica.epoch,
             round,

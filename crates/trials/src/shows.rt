@@ -80,23 +80,23 @@ fn vote(replica: &mut Replica) {
         zero: Mask(0x0004),
         one: Mask(0x0008),
     };
-    replica.votes.values[0] = Marks {
+    replica.votes.rounds[0].values = Marks {
         zero: Mask(0x0007),
         one: Mask(0x000c),
     };
-    replica.votes.values[3] = Marks {
+    replica.votes.rounds[3].values = Marks {
         zero: Mask(0x000b),
         one: Mask(0x0001),
     };
-    replica.votes.values[15] = Marks {
+    replica.votes.rounds[15].values = Marks {
         zero: Mask(0),
         one: Mask(0x0004),
     };
-    replica.votes.seens[0] = Marks {
+    replica.votes.rounds[0].seens = Marks {
         zero: Mask(0),
         one: Mask(0x0004),
     };
-    replica.votes.confirms[0] = Marks {
+    replica.votes.rounds[0].confirms = Marks {
         zero: Mask(0x000c),
         one: Mask(0x0005),
     };

@@ -4,7 +4,7 @@ use entry::Entry;
 use intake::{hear, submit};
 use replica::{Page, Replica, Set, Stage, Tables};
 use std::test::*;
-use votes::Marks;
+use votes::{Marks, Round, Votes};
 
 pub const LETTERS: [u8; 8] = [b'S', b'E', b'R', b'H', b'V', b'A', b'C', b'F'];
 
@@ -390,10 +390,10 @@ impl<K: Entry> World<K> {
         let set = self.want.set;
         let votes = &mut self.want.votes;
         match letter as char {
-            'V' => mark(&mut votes.values, b, sender, c == 0, c == 1),
-            'A' => mark(&mut votes.seens, b, sender, c == 0, c == 1),
-            'C' => mark(&mut votes.confirms, b, sender, c % 2 == 1, c >= 2),
-            'F' => mark_one(&mut votes.finish, sender, b == 0, b == 1),
+            'V' => mark(&mut round_of(votes, b)?.values, sender, c == 0, c == 1),
+            'A' => mark(&mut round_of(votes, b)?.seens, sender, c == 0, c == 1),
+            'C' => mark(&mut round_of(votes, b)?.confirms, sender, c % 2 == 1, c >= 2),
+            'F' => mark(&mut votes.finish, sender, b == 0, b == 1),
             _ => self.wanted.hold(set, sender, head, item),
         }
     }
@@ -407,20 +407,14 @@ fn fill<K: Entry>(cells: &mut [Option<K>], at: usize, item: &[u8]) -> Result<(),
     Ok(())
 }
 
-fn mark(
-    rounds: &mut [Marks; 16],
-    round: u8,
-    sender: u8,
-    zero: bool,
-    one: bool,
-) -> Result<(), Fail> {
+fn round_of(votes: &mut Votes, round: u8) -> Result<&mut Round, Fail> {
     if round >= 16 {
         return Err(Fail::new("out of range"));
     }
-    mark_one(&mut rounds[round as usize], sender, zero, one)
+    Ok(&mut votes.rounds[round as usize])
 }
 
-fn mark_one(marks: &mut Marks, sender: u8, zero: bool, one: bool) -> Result<(), Fail> {
+fn mark(marks: &mut Marks, sender: u8, zero: bool, one: bool) -> Result<(), Fail> {
     if sender >= 16 {
         return Err(Fail::new("out of range"));
     }

@@ -16,7 +16,8 @@ use Rattle.theory.specs.Laws.{Filed, Ten, SlotLaw}
 use Rattle.theory.proofs.Searching.{only_if_some, map_some, unless_some, given_some, guard_some, absent_none}
 use Rattle.theory.proofs.Choosing.{ten, round_some, turn_some}
 use Rattle.votes.specs.declared.marks.Marks.{Marks}
-use Rattle.votes.specs.Votes.{unmarked, marks, bit_of, set_for}
+use Rattle.votes.specs.declared.ballot.Round.{Round}
+use Rattle.votes.specs.Votes.{no_round, marks, bit_of, set_for}
 use Rattle.cells.specs.Rows.{Cells, slot_of, place_of}
 use Rattle.replica.specs.declared.state.Replica.{Replica}
 use Rattle.replica.specs.declared.state.Stage as declared
@@ -47,8 +48,8 @@ module _ (m : Replica) (t : Store) where
   row_filed : (cells : Cells) (f : List ℕ → Stmt (List ℕ)) (c : Cell) → ((x : List ℕ) → cell (f x) ≡ c) → (q s j : ℕ) (u : Stmt (List ℕ)) → row_cell m.set.n m.set.w cells f q s j ≡ Some u → cell u ≡ c
   row_filed cells f c same q s j u e = filed_as (ltb j m.set.n && (ltb q m.set.n && ltb s m.set.w)) f c (get_or cells (place_of m.set.n m.set.w q s j) None) u (λ a h. same a) e
 
-  vote_filed : {A : Type 0} (table : List Marks) (read : Marks → Option A) (f : A → Stmt (List ℕ)) (c : Cell) (n k j : ℕ) → ((a : A) → read (get_or table k unmarked) ≡ Some a → cell (f a) ≡ c) → (u : Stmt (List ℕ)) → vote_cell m table read f n k j ≡ Some u → cell u ≡ c
-  vote_filed table read f c n k j same u e = filed_as (ltb j m.set.n && (ltb k rounds && (ltb n epochs && eqb n m.epoch))) f c (read (get_or table k unmarked)) u same e
+  vote_filed : {A : Type 0} (read : Round → Option A) (f : A → Stmt (List ℕ)) (c : Cell) (n k j : ℕ) → ((a : A) → read (get_or m.votes.rounds k no_round) ≡ Some a → cell (f a) ≡ c) → (u : Stmt (List ℕ)) → vote_cell m read f n k j ≡ Some u → cell u ≡ c
+  vote_filed read f c n k j same u e = filed_as (ltb j m.set.n && (ltb k rounds && (ltb n epochs && eqb n m.epoch))) f c (read (get_or m.votes.rounds k no_round)) u same e
 
   -- a value cell has its own bit
   value_bit : (v : Bool) (j : ℕ) (p : Marks) (a : Bool) → value_in v j p ≡ Some a → v ≡ a
@@ -59,9 +60,9 @@ module _ (m : Replica) (t : Store) where
   filed_view j (at_echo q s) u e = row_filed t.echoes (echo q s) (at_echo q s) (λ x. refl) q s j u e
   filed_view j (at_ready q s) u e = row_filed t.readies (ready q s) (at_ready q s) (λ x. refl) q s j u e
   filed_view j (at_have q s) u e = row_filed t.haves (have q s) (at_have q s) (λ x. refl) q s j u e
-  filed_view j (at_value n k v) u e = vote_filed m.votes.values (value_in v j) (value n k) (at_value n k v) n k j (λ a h. ap (at_value n k) (sym (value_bit v j _ a h))) u e
-  filed_view j (at_seen n k) u e = vote_filed m.votes.seens (λ p. bit_of p j) (seen n k) (at_seen n k) n k j (λ a h. refl) u e
-  filed_view j (at_confirm n k) u e = vote_filed m.votes.confirms (λ p. set_for p j) (confirm n k) (at_confirm n k) n k j (λ a h. refl) u e
+  filed_view j (at_value n k v) u e = vote_filed (λ r. value_in v j r.values) (value n k) (at_value n k v) n k j (λ a h. ap (at_value n k) (sym (value_bit v j _ a h))) u e
+  filed_view j (at_seen n k) u e = vote_filed (λ r. bit_of r.seens j) (seen n k) (at_seen n k) n k j (λ a h. refl) u e
+  filed_view j (at_confirm n k) u e = vote_filed (λ r. set_for r.confirms j) (confirm n k) (at_confirm n k) n k j (λ a h. refl) u e
   filed_view j (at_finish n) u e = let p = mapped_some (finish n) _ u e in ap cell (sym p.2)
 
   pub laws : (coin : ℕ → ℕ → Bool) → Ten (plan m) (box m t) coin

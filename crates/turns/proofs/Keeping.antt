@@ -78,11 +78,11 @@ module _ (m : Replica) (t : Store) where
         })
 
     pub stage_whole : (g : declared.Stage) → ((r : ℕ) (d : Bool) → g ≡ Open r d → r < rounds) → Whole (with_stage m g) t
-    stage_whole g h = record { sized = record { values = W.sized.values; seens = W.sized.seens; confirms = W.sized.confirms }; past = W.past; heads = W.heads; lent = W.lent; week = W.week; round = h; filled = W.filled; low = W.low; room = W.room }
+    stage_whole g h = record { sized = record { long = W.sized.long }; past = W.past; heads = W.heads; lent = W.lent; week = W.week; round = h; filled = W.filled; low = W.low; room = W.room }
 
     pub left_whole : m.epoch < epochs → Whole (left_of m) t
     left_whole l = record {
-      sized = record { values = refl; seens = refl; confirms = refl };
+      sized = record { long = refl };
       past = length-set m.past m.epoch _ ∙ W.past;
       heads = W.heads;
       lent = W.lent;
@@ -105,7 +105,7 @@ module _ (m : Replica) (t : Store) where
 
       pub page_whole : Whole (filed_of (Some p) m t).0 (filed_of (Some p) m t).1
       page_whole = record {
-        sized = record { values = W.sized.values; seens = W.sized.seens; confirms = W.sized.confirms };
+        sized = record { long = W.sized.long };
         past = W.past;
         heads = length-set m.heads p.queue _ ∙ W.heads;
         lent = simp length-set W.lent;

@@ -7,7 +7,7 @@ use Rattle.common.specs.Limits.{epochs}
 use Rattle.theory.specs.Statement.{value, seen, confirm, finish, Cell, at_send, at_echo, at_ready, at_have, at_value, at_seen, at_confirm, at_finish}
 use Rattle.theory.specs.Book.{Page, Ledger}
 use Rattle.theory.specs.Machine.{drop}
-use Rattle.votes.specs.Votes.{unmarked, no_votes, bit_of, set_for}
+use Rattle.votes.specs.Votes.{unmarked, bit_of, set_for}
 use Rattle.votes.proofs.Marking.{marks_none, bit_none, set_none}
 use Rattle.replica.specs.declared.state.Replica.{Replica}
 use Rattle.replica.specs.Store.{Store}
@@ -51,9 +51,9 @@ module _ (m : Replica) (t : Store) (before : m.epoch < epochs) (long : length m.
   view_left j (at_echo q s) = refl
   view_left j (at_ready q s) = refl
   view_left j (at_have q s) = refl
-  view_left j (at_value e k v) = vote_none (left_of m) no_votes.values refl (value_in v j) (ap (λ b. held b (Some v)) (marks_none v j)) (value e k) e k j
-  view_left j (at_seen e k) = vote_none (left_of m) no_votes.seens refl (λ p. bit_of p j) (bit_none j) (seen e k) e k j
-  view_left j (at_confirm e k) = vote_none (left_of m) no_votes.confirms refl (λ p. set_for p j) (set_none j) (confirm e k) e k j
+  view_left j (at_value e k v) = vote_none (left_of m) refl (λ r. value_in v j r.values) (ap (λ b. held b (Some v)) (marks_none v j)) (value e k) e k j
+  view_left j (at_seen e k) = vote_none (left_of m) refl (λ r. bit_of r.seens j) (bit_none j) (seen e k) e k j
+  view_left j (at_confirm e k) = vote_none (left_of m) refl (λ r. set_for r.confirms j) (set_none j) (confirm e k) e k j
   view_left j (at_finish e) = finish_left j e
 
 -- one page more, in the cell behind the last

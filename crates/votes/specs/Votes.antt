@@ -5,6 +5,7 @@ use Rattle.theory.specs.Statement.{Bits, only, both}
 use Rattle.theory.specs.Turns.{set_of, same_bit}
 use Rattle.votes.specs.declared.mask.Mask.{Mask}
 use Rattle.votes.specs.declared.marks.Marks.{Marks}
+use Rattle.votes.specs.declared.ballot.Round.{Round}
 use Rattle.votes.specs.declared.ballot.Votes as declared
 
 -- sender j is in the mask
@@ -21,8 +22,11 @@ senders mask = record { 0 = mask }
 abbrev pub unmarked : Marks
 unmarked = record { zero = senders 0; one = senders 0 }
 
+abbrev pub no_round : Round
+no_round = record { values = unmarked; seens = unmarked; confirms = unmarked }
+
 abbrev pub no_votes : declared.Votes
-no_votes = record { values = replicate 16 unmarked; seens = replicate 16 unmarked; confirms = replicate 16 unmarked; finish = unmarked }
+no_votes = record { rounds = replicate 16 no_round; finish = unmarked }
 
 -- who has marked bit v
 abbrev pub mask_of : Marks → Bool → ℕ

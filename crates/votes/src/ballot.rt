@@ -1,10 +1,16 @@
 use crate::marks::Marks;
 
+// The votes of a round: the values, the seens and the confirms.
+#[derive(Clone, Copy, PartialEq, Eq, Debug)]
+pub struct Round {
+    pub values: Marks,
+    pub seens: Marks,
+    pub confirms: Marks,
+}
+
 // The votes of an epoch: by round, and the finish.
 #[derive(Clone, Copy, PartialEq, Eq, Debug)]
 pub struct Votes {
-    pub values: [Marks; 16],
-    pub seens: [Marks; 16],
-    pub confirms: [Marks; 16],
+    pub rounds: [Round; 16],
     pub finish: Marks,
 }

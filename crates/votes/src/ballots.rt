@@ -1,7 +1,7 @@
 ghost use Rattle.std.specs.Prelude.{◌≡◌};
 ghost use Rattle.votes.specs.Votes.{no_votes};
 
-use crate::ballot::Votes;
+use crate::ballot::{Round, Votes};
 use crate::marks::Marks;
 
 impl Votes {
@@ -10,10 +10,13 @@ impl Votes {
         ensures { result ≡ no_votes }
     {
         let none = Marks::none();
+        let round = Round {
+            values: none,
+            seens: none,
+            confirms: none,
+        };
         Votes {
-            values: [none; 16],
-            seens: [none; 16],
-            confirms: [none; 16],
+            rounds: [round; 16],
             finish: none,
         }
     }

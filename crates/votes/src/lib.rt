@@ -14,7 +14,7 @@ mod masks;
 mod senders;
 mod sets;
 
-pub use ballot::Votes;
+pub use ballot::{Round, Votes};
 pub use bits::Bits;
 pub use marks::Marks;
 pub use mask::Mask;
