@@ -4,13 +4,14 @@ use mathlib.Core.Bool.{beq}
 use Rattle.std.specs.Option.{option_map}
 use Rattle.std.proofs.lemmas.Bool.{lt-ltb, and_parts, and_from, cond-true}
 use Rattle.common.specs.Limits.{epochs}
-use Rattle.theory.specs.Statement.{only, Stmt, seen, confirm, finish, StmtEq, decided}
+use Rattle.theory.specs.Statement.{only, Stmt, sends, echo, ready, have, seen, confirm, finish, StmtEq, decided}
 use Rattle.theory.specs.Calls.{ranged}
 use Rattle.votes.specs.contracts.bits.BitsPartialEq.TheImpl as sets
 use Rattle.votes.specs.declared.bits.Bits.{Bits}
 use Rattle.votes.specs.declared.bits.Bits.TheVariants.{Only, Both}
 use Rattle.votes.specs.Sets.{bits_of}
 use Rattle.votes.specs.Votes.{no_round, bit_of, set_for}
+use Rattle.cells.specs.Rows.{slot_of, place_of}
 use Rattle.replica.specs.declared.state.Replica.{Replica}
 use Rattle.replica.specs.Store.{Store}
 use Rattle.replica.specs.View.{held, plan, box, bytes_same}
@@ -74,3 +75,22 @@ module _ (m : Replica) (t : Store) (j : ℕ) (lj : j < m.set.n) where
       let p = and_parts (ltb e epochs) (eqb e m.epoch) r in
       settled_at beq (finish e) (carried_told beq (λ x. x) (finish e) bits_told (λ x y h. cc)) true refl o _
       (ap (option_map (finish e)) (is ∙ sym (cond-true _ _ None (and_from _ _ (lt-ltb j m.set.n lj) p.0) ∙ cond-true _ _ _ p.1))) v
+
+module _ {K : Type 0} (eq : K → K → Bool) (bytes : K → List ℕ) (told : Tells eq bytes) (m : Replica) (t : Store) (j : ℕ) (lj : j < m.set.n) where
+  entry_vacant : (st : List ℕ → Stmt (List ℕ)) → ((x y : List ℕ) → st x ≡ st y → x ≡ y) → (guard : Bool) → guard ≡ true → (o : Option K) (there : Option (List ℕ)) → option_map bytes o ≡ there → (x : K)
+      → settled_by eq o x ≡ settled (StmtEq bytes_same) (held guard (option_map st there)) (st (bytes x))
+  entry_vacant st inj guard g o there is x =
+      settled_at eq (λ y. st (bytes y)) (carried_told eq bytes st told inj) guard g o _ (carried bytes st o ∙ ap (option_map st) is) x
+
+  pub send_vacant : (s : ℕ) (x : K) (o : Option K) → ranged (plan m) (box m t) (sends s (bytes x)) ≡ true → option_map bytes o ≡ get_or t.sends (slot_of m.set.w j s) None → settled_by eq o x ≡ vacant_of m t j (sends s (bytes x))
+  send_vacant s x o r is = entry_vacant (sends s) (λ x y h. cc) _ (and_from _ _ (lt-ltb j m.set.n lj) r) o _ is x
+
+  module _ (q s : ℕ) (x : K) (o : Option K) where
+    pub echo_vacant : ranged (plan m) (box m t) (echo q s (bytes x)) ≡ true → option_map bytes o ≡ get_or t.echoes (place_of m.set.n m.set.w q s j) None → settled_by eq o x ≡ vacant_of m t j (echo q s (bytes x))
+    echo_vacant r is = entry_vacant (echo q s) (λ x y h. cc) _ (and_from _ _ (lt-ltb j m.set.n lj) r) o _ is x
+
+    pub ready_vacant : ranged (plan m) (box m t) (ready q s (bytes x)) ≡ true → option_map bytes o ≡ get_or t.readies (place_of m.set.n m.set.w q s j) None → settled_by eq o x ≡ vacant_of m t j (ready q s (bytes x))
+    ready_vacant r is = entry_vacant (ready q s) (λ x y h. cc) _ (and_from _ _ (lt-ltb j m.set.n lj) r) o _ is x
+
+    pub have_vacant : ranged (plan m) (box m t) (have q s (bytes x)) ≡ true → option_map bytes o ≡ get_or t.haves (place_of m.set.n m.set.w q s j) None → settled_by eq o x ≡ vacant_of m t j (have q s (bytes x))
+    have_vacant r is = entry_vacant (have q s) (λ x y h. cc) _ (and_from _ _ (lt-ltb j m.set.n lj) r) o _ is x

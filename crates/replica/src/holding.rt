@@ -10,7 +10,7 @@ ghost use Rattle.replica.specs.Holding.{vacant_of, held_of, Heard};
 
 use crate::claim::Claim;
 use crate::lent::Tables;
-use crate::settling::{settle, settle_entry};
+use crate::settling::settle;
 use crate::state::Replica;
 use cells::{place, slot_place};
 use common::Refusal;
@@ -32,19 +32,19 @@ impl Replica {
         let n = self.set.n;
         let w = self.set.w;
         match claim {
-            Claim::Send { slot, item } => settle_entry(
+            Claim::Send { slot, item } => settle(
                 tables.sends.get(slot_place(sender, slot, n, w)),
                 item,
             ),
-            Claim::Echo { queue, slot, item } => settle_entry(
+            Claim::Echo { queue, slot, item } => settle(
                 tables.echoes.get(place(queue, slot, sender, n, w)),
                 item,
             ),
-            Claim::Ready { queue, slot, item } => settle_entry(
+            Claim::Ready { queue, slot, item } => settle(
                 tables.readies.get(place(queue, slot, sender, n, w)),
                 item,
             ),
-            Claim::Have { queue, slot, item } => settle_entry(
+            Claim::Have { queue, slot, item } => settle(
                 tables.haves.get(place(queue, slot, sender, n, w)),
                 item,
             ),

@@ -1,24 +1,11 @@
 // Whether one fits where something may be held already.
 ghost use Rattle.std.specs.Prelude.{◌≡◌};
-ghost use Rattle.std.specs.Option.{option_map};
 ghost use Rattle.common.specs.Refusals.{numbered};
-ghost use Rattle.replica.specs.View.{bytes_same};
-ghost use Rattle.replica.specs.Holding.{taken_of, settled, settled_by};
+ghost use Rattle.replica.specs.Holding.{taken_of, settled_by};
 
 use common::Refusal;
-use entry::Entry;
 
-// An entry, in a cell.
-pub fn settle_entry<K: Entry>(held: Option<K>, item: K) -> Result<(), Refusal>
-    ensures { numbered result ≡ settled bytes_same (option_map K.bytes held) (K.bytes item) }
-{
-    match held {
-        None => Ok(()),
-        Some(old) => taken(old == item),
-    }
-}
-
-// Anything.
+// The same must not be held, nor another.
 pub fn settle<T: PartialEq + Copy>(held: Option<T>, item: T) -> Result<(), Refusal>
     ensures { numbered result ≡ settled_by T.eq held item }
 {

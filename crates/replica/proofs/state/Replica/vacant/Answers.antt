@@ -1,12 +1,12 @@
-use Rattle.std.proofs.Common.{◌∙◌}
+use Rattle.std.proofs.Common.{get_or, None, ap, ◌∙◌}
 use Rattle.replica.specs.Store.{store}
-use Rattle.replica.proofs.Vacating.{seen_vacant, confirm_vacant, finish_vacant}
+use Rattle.replica.proofs.Vacating.{send_vacant, echo_vacant, ready_vacant, have_vacant, seen_vacant, confirm_vacant, finish_vacant}
 use Rattle.replica.proofs.state.Replica.vacant.Goals as goal
 
 pub returns-in-Seen : goal.returns-in-Seen
 returns-in-Seen g c =
     let s = c.in-Seen in let t = store g.K.Entry.bytes c.args.tables.now in
-    rw s.is (c.settle.ensures ∙ seen_vacant c.args.self.now t c.args.sender c.requires.from s.epoch s.round s.bit c.bit.result (rw s.is at c.requires.ranged) c.bit.ensures)
+    rw s.is (c.settle-in-Seen.ensures ∙ seen_vacant c.args.self.now t c.args.sender c.requires.from s.epoch s.round s.bit c.bit.result (rw s.is at c.requires.ranged) c.bit.ensures)
 
 pub returns-in-Finish : goal.returns-in-Finish
 returns-in-Finish g c =
@@ -17,3 +17,27 @@ pub returns-in-Confirm : goal.returns-in-Confirm
 returns-in-Confirm g c =
     let s = c.in-Confirm in let t = store g.K.Entry.bytes c.args.tables.now in
     rw s.is (c.settle-in-Confirm.ensures ∙ confirm_vacant c.args.self.now t c.args.sender c.requires.from s.epoch s.round s.set c.set.result (rw s.is at c.requires.ranged) c.set.ensures)
+
+pub returns-in-Send : goal.returns-in-Send
+returns-in-Send g c =
+    let s = c.in-Send in let m = c.args.self.now in let t = store g.K.Entry.bytes c.args.tables.now in
+    let is = c.get.ensures ∙ ap (λ a. get_or t.sends a None) c.slot_place.ensures.value in
+    rw s.is (c.settle.ensures ∙ send_vacant g.K.PartialEq.eq g.K.Entry.bytes g.met.K.Entry.same m t c.args.sender c.requires.from s.slot s.item c.get.result (rw s.is at c.requires.ranged) is)
+
+pub returns-in-Echo : goal.returns-in-Echo
+returns-in-Echo g c =
+    let s = c.in-Echo in let m = c.args.self.now in let t = store g.K.Entry.bytes c.args.tables.now in
+    let is = c.get-in-Echo.ensures ∙ ap (λ a. get_or t.echoes a None) c.place.ensures.value in
+    rw s.is (c.settle-in-Echo.ensures ∙ echo_vacant g.K.PartialEq.eq g.K.Entry.bytes g.met.K.Entry.same m t c.args.sender c.requires.from s.queue s.slot s.item c.get-in-Echo.result (rw s.is at c.requires.ranged) is)
+
+pub returns-in-Ready : goal.returns-in-Ready
+returns-in-Ready g c =
+    let s = c.in-Ready in let m = c.args.self.now in let t = store g.K.Entry.bytes c.args.tables.now in
+    let is = c.get-in-Ready.ensures ∙ ap (λ a. get_or t.readies a None) c.place-in-Ready.ensures.value in
+    rw s.is (c.settle-in-Ready.ensures ∙ ready_vacant g.K.PartialEq.eq g.K.Entry.bytes g.met.K.Entry.same m t c.args.sender c.requires.from s.queue s.slot s.item c.get-in-Ready.result (rw s.is at c.requires.ranged) is)
+
+pub returns-in-Have : goal.returns-in-Have
+returns-in-Have g c =
+    let s = c.in-Have in let m = c.args.self.now in let t = store g.K.Entry.bytes c.args.tables.now in
+    let is = c.get-in-Have.ensures ∙ ap (λ a. get_or t.haves a None) c.place-in-Have.ensures.value in
+    rw s.is (c.settle-in-Have.ensures ∙ have_vacant g.K.PartialEq.eq g.K.Entry.bytes g.met.K.Entry.same m t c.args.sender c.requires.from s.queue s.slot s.item c.get-in-Have.result (rw s.is at c.requires.ranged) is)
