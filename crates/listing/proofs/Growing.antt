@@ -1,12 +1,18 @@
 -- Text that grows at its end.
-use Rattle.std.proofs.Common.{◌≡◌, ℕ, ◌+◌, ◌<◌, ◌≤◌, List, [], ◌∷◌, ◌++◌, map, length, get_or, take, None, Option, sym, refl, ap, ◌∙◌, append_assoc, append-nil, add-one, take_all}
-use Rattle.std.proofs.lemmas.List.{map_more}
+use Rattle.std.proofs.Common.{◌≡◌, ℕ, ◌+◌, ◌<◌, ◌≤◌, List, [], ◌∷◌, ◌++◌, map, length, get_or, take, None, Option, sym, refl, ap, ◌∙◌, append_assoc, append-nil, add-one, take-take, length-append, arith}
+use Rattle.std.proofs.lemmas.List.{map_more, map_push, take_at}
 use Rattle.std.specs.List.{slice_get}
-use Rattle.listing.specs.Rows.{text_of, following, padded}
+use Rattle.listing.specs.Rows.{text_of, following, padded, Kept}
 
 -- what was added to what had been added
 pub then_more : {X : Type 0} {now mid : List X} (was xs ys : List X) → mid ≡ was ++ xs → now ≡ mid ++ ys → now ≡ was ++ (xs ++ ys)
 then_more was xs ys a b = b ∙ ap (λ l. l ++ ys) a ∙ append_assoc was xs ys
+
+-- what stood in front of what was added
+pub kept_on : (was xs mid now : List ℕ) → mid ≡ was ++ xs → Kept mid now → Kept was now
+kept_on was xs mid now a k =
+    let fewer : length was ≤ length mid = omega (arith, ap length a ∙ length-append was xs) in
+    sym (take-take (length was) (length mid) now fewer) ∙ ap (take (length was)) (k ∙ a) ∙ take_at was xs (length was) refl
 
 pub following_push : (ts : List (List ℕ)) (t : List ℕ) → following (ts ++ (t ∷ [])) ≡ following ts ++ (59 ∷ t)
 following_push [] t = ap (λ l. 59 ∷ l) (append-nil t)
@@ -14,13 +20,6 @@ following_push (u ∷ ts) t = ap (λ l. 59 ∷ l) (ap (λ l. u ++ l) (following_
 
 pub following_more : (cs : List (Option ℕ)) (i : ℕ) → i < length cs → following (map text_of (take (i + 1) cs)) ≡ following (map text_of (take i cs)) ++ (59 ∷ text_of (get_or cs i None))
 following_more cs i h = ap following (map_more text_of cs i None h) ∙ following_push (map text_of (take i cs)) (text_of (get_or cs i None))
-
-pub following_all : (cs : List (Option ℕ)) (i : ℕ) → length cs ≤ i → following (map text_of (take i cs)) ≡ following (map text_of cs)
-following_all cs i h = ap (λ l. following (map text_of l)) (take_all i cs h)
-
-map_push : {X Y : Type 0} (f : X → Y) (xs : List X) (x : X) → map f (xs ++ (x ∷ [])) ≡ map f xs ++ (f x ∷ [])
-map_push f [] x = refl
-map_push f (y ∷ xs) x = ap (λ l. f y ∷ l) (map_push f xs x)
 
 pub following_padded : (ns : List ℕ) (i : ℕ) → following (map text_of (padded (i + 1) ns)) ≡ following (map text_of (padded i ns)) ++ (59 ∷ text_of (slice_get ns i))
 following_padded ns i =
