@@ -1,51 +1,55 @@
 -- A day, one record after the other.
-use Rattle.std.proofs.Common.{◌≡◌, ℕ, zero, suc, ◌+◌, ◌<◌, ◌≤◌, Bool, true, false, cond, ltb, leb, List, length, get_or, take, drop, sym, refl, ap, ◌∙◌, arith, length-drop, length-take-le}
-use Rattle.std.proofs.lemmas.Bool.{ltb-false}
-use Rattle.day.specs.Days.{Run, noted, torn_line, taken_of, Cut, end, torn, whole, size_at, cut_at, further, day_from}
+use Rattle.std.proofs.Common.{◌≡◌, ℕ, zero, suc, ◌+◌, ◌≤◌, Bool, List, [], ◌∷◌, length, Ok, Err, fold, sym, refl, ap, ◌∙◌, arith}
+use Rattle.std.proofs.lemmas.Bool.{le-leb}
+use Rattle.day.specs.Days.{Run, noted, torn_line, taken_of, Cut, end, torn, whole, cut_at, Found, found_on, found_from, found_left, further, day_from}
 
--- a whole record lies inside the day
-pub lies : (d : List ℕ) (p : ℕ) (j : ℕ) (s : List ℕ) → cut_at d p ≡ whole j s → p + 3 + length s ≤ length d
-lies d p j s e = by (leb (length d) p) e
+-- nothing stands at the end
+pub ended : (d : List ℕ) (p : ℕ) → length d ≤ p → cut_at d p ≡ end
+ended d p h = rw (le-leb (length d) p h)
+
+-- one more than enough steps find no more
+pub steady : (n : ℕ) (d : List ℕ) (p : ℕ) → length d ≤ n + p → found_from n d p ≡ found_from (suc n) d p
+unfolding found_from
+steady zero d p h =
+    sym (ap (λ v. found_on v p (λ s. [])) (ended d p (omega arith)))
+steady (suc n) d p h = by (cut_at d p) (λ s. steady n d (p + 3 + length s) (omega arith))
   where
-    by_size : (x : Bool) → ltb (length d) (p + 3 + size_at d p) ≡ x → cond x torn (whole (get_or d p 0) (take (size_at d p) (drop (p + 3) d))) ≡ whole j s → p + 3 + length s ≤ length d
-    by_size true f g = absurd (let z : ◌≡◌ {A = ℕ} 0 1 = cc in omega arith)
-    by_size false f g =
-        let is : take (size_at d p) (drop (p + 3) d) ≡ s = cc in
-        let room : p + 3 + size_at d p ≤ length d = ltb-false _ _ f in
-        let n : length (take (size_at d p) (drop (p + 3) d)) ≡ size_at d p = length-take-le (size_at d p) (drop (p + 3) d) (omega (arith, length-drop (p + 3) d)) in
-        omega (arith, sym (ap length is) ∙ n)
+    by : (v : Cut) → ((s : List ℕ) → found_from n d (p + 3 + length s) ≡ found_from (suc n) d (p + 3 + length s))
+        → found_on v p (λ s. found_from n d (p + 3 + length s)) ≡ found_on v p (λ s. found_from (suc n) d (p + 3 + length s))
+    by end more = refl
+    by torn more = refl
+    by (whole j s) more = ap (λ l. Ok (j, p + 3, s) ∷ l) (more s)
 
-    by_head : (x : Bool) → cond x torn (cond (ltb (length d) (p + 3 + size_at d p)) torn (whole (get_or d p 0) (take (size_at d p) (drop (p + 3) d)))) ≡ whole j s → p + 3 + length s ≤ length d
-    by_head true g = absurd (let z : ◌≡◌ {A = ℕ} 0 1 = cc in omega arith)
-    by_head false g = by_size (ltb (length d) (p + 3 + size_at d p)) refl g
+-- what is found, taken in
+abbrev pub found_taken : ℕ → (List ℕ → Bool) → Run → Found → Run
+found_taken w valid r (Ok x) = taken_of w valid x.0 x.1 x.2 r
+found_taken w valid r (Err p) = noted r (torn_line p)
 
-    by : (x : Bool) → cond x end (cond (ltb (length d) (p + 3)) torn (cond (ltb (length d) (p + 3 + size_at d p)) torn (whole (get_or d p 0) (take (size_at d p) (drop (p + 3) d))))) ≡ whole j s → p + 3 + length s ≤ length d
-    by true g = absurd (let z : ◌≡◌ {A = ℕ} 0 1 = cc in omega arith)
-    by false g = by_head (ltb (length d) (p + 3)) g
+-- a day is what is found in it, taken in
+pub day_found : (n w : ℕ) (valid : List ℕ → Bool) (d : List ℕ) (p : ℕ) (r : Run) → day_from n w valid d p r ≡ fold (found_taken w valid) r (found_from n d p)
+unfolding day_from found_from
+day_found zero w valid d p r = refl
+day_found (suc n) w valid d p r = by (cut_at d p) (λ j s. day_found n w valid d (p + 3 + length s) (taken_of w valid j (p + 3) s r))
+  where
+    by : (v : Cut) → ((j : ℕ) (s : List ℕ) → day_from n w valid d (p + 3 + length s) (taken_of w valid j (p + 3) s r) ≡ fold (found_taken w valid) (taken_of w valid j (p + 3) s r) (found_from n d (p + 3 + length s)))
+        → further v p r (λ j s. day_from n w valid d (p + 3 + length s) (taken_of w valid j (p + 3) s r)) ≡ fold (found_taken w valid) r (found_on v p (λ s. found_from n d (p + 3 + length s)))
+    by end more = refl
+    by torn more = refl
+    by (whole j s) more = more j s
 
--- from place p on, with r so far, the day comes to the run `all`, and there are steps enough
-pub record Rest (w : ℕ) (valid : List ℕ → Bool) (d : List ℕ) (p : ℕ) (r all : Run) : Type 0 where
-  pub steps : ℕ
-  pub enough : length d < steps + p
-  pub same : day_from steps w valid d p r ≡ all
+-- what is left at a place, by what stands there
+pub none_left : (d : List ℕ) (p : ℕ) → length d ≤ p → found_left d p ≡ []
+unfolding found_from
+none_left d p h = ap (λ v. found_on v p (λ s. found_from (length d) d (p + 3 + length s))) (ended d p h)
 
-module _ (w : ℕ) (valid : List ℕ → Bool) (d : List ℕ) (p : ℕ) (low : p ≤ length d) (r all : Run) (rest : Rest w valid d p r all) where
-  step : (v : Cut) → cut_at d p ≡ v → (m : ℕ) × (length d < suc m + p) × (further v p r (λ j s. day_from m w valid d (p + 3 + length s) (taken_of w valid j (p + 3) s r)) ≡ all)
-  unfolding day_from
-  step v is = at rest.steps rest.enough rest.same
-    where
-      at : (n : ℕ) → length d < n + p → day_from n w valid d p r ≡ all
-          → (m : ℕ) × (length d < suc m + p) × (further v p r (λ j s. day_from m w valid d (p + 3 + length s) (taken_of w valid j (p + 3) s r)) ≡ all)
-      at zero h e = absurd (omega arith)
-      at (suc m) h e = (m, h, ap (λ v. further v p r (λ j s. day_from m w valid d (p + 3 + length s) (taken_of w valid j (p + 3) s r))) (sym is) ∙ e)
+pub torn_left : (d : List ℕ) (p : ℕ) → cut_at d p ≡ torn → found_left d p ≡ Err p ∷ found_left d (length d)
+unfolding found_from
+torn_left d p is =
+    ap (λ v. found_on v p (λ s. found_from (length d) d (p + 3 + length s))) is
+    ∙ sym (ap (λ l. Err p ∷ l) (none_left d (length d) (omega arith)))
 
-  pub over : cut_at d p ≡ end → r ≡ all
-  over is = (step end is).2
-
-  pub tears : cut_at d p ≡ torn → noted r (torn_line p) ≡ all
-  tears is = (step torn is).2
-
-  pub passes : (j : ℕ) (s : List ℕ) (x : Run) → cut_at d p ≡ whole j s → x ≡ taken_of w valid j (p + 3) s r → Rest w valid d (p + 3 + length s) x all
-  passes j s x is e =
-      let f = step (whole j s) is in
-      record { steps = f.0; enough = omega (arith, f.1); same = ap (day_from f.0 w valid d (p + 3 + length s)) e ∙ f.2 }
+pub more_left : (d : List ℕ) (p j : ℕ) (s : List ℕ) → cut_at d p ≡ whole j s → found_left d p ≡ Ok (j, p + 3, s) ∷ found_left d (p + 3 + length s)
+unfolding found_from
+more_left d p j s is =
+    ap (λ v. found_on v p (λ s. found_from (length d) d (p + 3 + length s))) is
+    ∙ ap (λ l. Ok (j, p + 3, s) ∷ l) (steady (length d) d (p + 3 + length s) (omega arith))

@@ -1,3 +1,3 @@
-pub mod Going
+pub mod Turning
 pub mod Cutting
 pub mod Hearing

@@ -5,8 +5,8 @@ use Rattle.replica.specs.declared.state.Replica.{Replica}
 use Rattle.replica.specs.Store.{Store}
 use Rattle.intake.specs.Hearing.{hear_of}
 use Rattle.intake.specs.Submitting.{submit_of}
-use Rattle.day.specs.declared.part.Part as declared
-use Rattle.day.specs.declared.part.Part.TheVariants.{End, Torn, Whole}
+use Rattle.day.specs.declared.record.Record.{Record}
+use Rattle.day.specs.declared.record.Torn.{Torn}
 
 -- the line of what is declined with number e at place p, and of a record at p that the day ends inside of
 abbrev pub refused_line : ℕ → ℕ → List ℕ
@@ -73,10 +73,9 @@ pub data Cut : Type 0 where
   end torn : Cut
   whole : (sender : ℕ) → List ℕ → Cut
 
-abbrev pub cut_of : declared.Part → Cut
-cut_of End = end
-cut_of Torn = torn
-cut_of (Whole j s) = whole j s.now
+abbrev pub cut_of : Option Record → Cut
+cut_of None = torn
+cut_of (Some x) = whole x.sender x.bytes.now
 
 -- the length of the record at place p: two bytes behind its first, high first
 abbrev pub size_at : List ℕ → ℕ → ℕ
@@ -88,6 +87,29 @@ cut_at d p =
     (cond (nat_lt (length d) (p + 3)) torn
     (cond (nat_lt (length d) (p + 3 + size_at d p)) torn
     (whole (slice_index d p) (take (size_at d p) (drop (p + 3) d)))))
+
+-- what is found in a day: a record's sender, the place where its bytes begin, and its bytes; or the place of one that the day ends inside of
+abbrev pub Found : Type 0
+Found = Result (ℕ × ℕ × List ℕ) ℕ
+
+abbrev pub found_of : Result Record Torn → Found
+found_of (Ok x) = Ok (x.sender, x.start, x.bytes.now)
+found_of (Err x) = Err x.place
+
+-- what is found at place p, and behind a whole record what is found further on
+abbrev pub found_on : Cut → ℕ → (List ℕ → List Found) → List Found
+found_on end p more = []
+found_on torn p more = Err p ∷ []
+found_on (whole j s) p more = Ok (j, p + 3, s) ∷ more s
+
+-- the first n finds, from place p on
+unfoldable pub found_from : ℕ → List ℕ → ℕ → List Found
+found_from zero d p = []
+found_from (suc n) d p = found_on (cut_at d p) p (λ s. found_from n d (p + 3 + length s))
+
+-- all of them: a day has fewer records than one more than its bytes
+abbrev pub found_left : List ℕ → ℕ → List Found
+found_left d p = found_from (suc (length d)) d p
 
 -- what stands at place p: a torn record ends the day with its line, a whole one goes on
 abbrev pub further : Cut → ℕ → Run → (ℕ → List ℕ → Run) → Run

@@ -1,56 +1,33 @@
-ghost use Rattle.std.specs.Prelude.{◌≡◌, ◌+◌, ◌^◌, ◌<◌, length, OnOk};
+ghost use Rattle.std.specs.Prelude.{◌≡◌, OnOk};
 ghost use Rattle.replica.specs.Store.{store};
-ghost use Rattle.day.specs.Days.{heard_at, frame_of};
+ghost use Rattle.day.specs.Days.{frame_of};
 
-use crate::lines::{push_answer, push_refused};
+use crate::lines::push_refused;
+use crate::record::Record;
 use entry::Entry;
 use intake::hear;
 use replica::{Replica, Tables};
-use std::alloc::{AllocError, Global};
-use wire::next;
+use std::alloc::AllocError;
+use wire::walk;
 
-// Hears one statement, which stands at a place of the day.
-fn hear_at<K: Entry>(
-    replica: &mut Replica,
-    tables: &mut Tables<'_, K>,
-    text: &mut Vec<u8>,
-    heap: Global,
-    sender: u8,
-    place: usize,
-    s: &[u8],
-) -> Result<(), AllocError>
-    ensures { OnOk result ((text.new.items, replica.new, store K.bytes tables.new) ≡ heard_at K.WIDTH K.valid sender place s.now (text.old.items, replica.old, store K.bytes tables.old)) }
-{
-    let answer = hear(replica, tables, sender, s);
-    push_answer(text, heap, place, answer)
-}
-
-// Hears the statements of a frame, which begins at a place of the day.
+// Hears the statements of a record that is a frame.
 pub fn hear_frame<K: Entry>(
     replica: &mut Replica,
     tables: &mut Tables<'_, K>,
     text: &mut Vec<u8>,
-    heap: Global,
-    sender: u8,
-    start: usize,
-    frame: &[u8],
+    sent: Record<'_>,
 ) -> Result<(), AllocError>
-    requires { start + length frame.now < 2 ^ 64 }
-    ensures { OnOk result ((text.new.items, replica.new, store K.bytes tables.new) ≡ frame_of K.WIDTH K.valid sender start frame.now (text.old.items, replica.old, store K.bytes tables.old)) }
+    ensures { OnOk result ((text.new.items, replica.new, store K.bytes tables.new) ≡ frame_of K.WIDTH K.valid sent.entry.sender sent.entry.start sent.entry.bytes.now (text.old.items, replica.old, store K.bytes tables.old)) }
 {
-    let mut place = 0;
-    loop {
-        let found = match next::<K>(frame, place) {
-            Ok(found) => found,
-            Err(refusal) => {
-                push_refused(text, heap, start + place, refusal)?;
-                return Ok(());
+    for step in walk::<K>(sent.bytes) {
+        match step {
+            Ok(part) => {
+                if let Err(refusal) = hear(replica, tables, sent.sender, part.bytes) {
+                    push_refused(text, sent.start + part.place, refusal)?;
+                }
             }
-        };
-        let Some(part) = found else {
-            return Ok(());
-        };
-        hear_at(replica, tables, text, heap, sender, start + place, part)?;
-        place += part.len();
+            Err(fault) => push_refused(text, sent.start + fault.place, fault.refusal)?,
+        }
     }
+    Ok(())
 }

@@ -6,7 +6,7 @@
 mod days;
 mod frames;
 mod lines;
-mod part;
-mod parts;
+mod record;
+mod records;
 
 pub use days::replay;

@@ -4,8 +4,6 @@
 // All that is printed is made by `day::replay`, `listing::record` and `printing::print`.
 #![tactic(auto)]
 
-ghost use Rattle.std.specs.Prelude.{◌≡◌, replicate, IfOk, None};
-
 use common::Refusal;
 use day::replay;
 use entry::{Entry, Reading, ShareOrder};
@@ -13,7 +11,6 @@ use listing::record;
 use printing::print;
 use replica::{Replica, Tables};
 use showing::show;
-use std::alloc::{AllocError, Global};
 use std::env;
 use std::io::{Read, Write};
 use std::process::ExitCode;
@@ -28,71 +25,80 @@ const ROWS: usize = 4096;
 // More bytes than the board and the file of the largest set have.
 const ROOM: usize = 65536;
 
-fn main(rt: HostRuntime) -> anyhow::Result<ExitCode> {
-    let mut args = env::args(&rt)?;
-    let _program = args.next();
-    let Some(kind) = args.next() else {
-        return usage(&rt);
-    };
-    let Some(n) = number(args.next()) else {
-        return usage(&rt);
-    };
-    let Some(own) = number(args.next()) else {
-        return usage(&rt);
-    };
-    let Some(w) = number(args.next()) else {
-        return usage(&rt);
-    };
-    if args.next().is_some() {
-        return usage(&rt);
+#[derive(Clone, Copy)]
+enum Kind {
+    Reading,
+    Order,
+}
+
+// What the arguments say.
+#[derive(Clone, Copy)]
+struct Options {
+    kind: Kind,
+    boxes: u8,
+    // The replica's own number.
+    own: u8,
+    // How many slots a queue has.
+    slots: u8,
+}
+
+impl Options {
+    fn read(mut args: env::Args) -> Option<Options> {
+        let _program = args.next();
+        let kind = match args.next()?.as_str() {
+            "reading" => Kind::Reading,
+            "order" => Kind::Order,
+            _ => return None,
+        };
+        let boxes = number(args.next())?;
+        let own = number(args.next())?;
+        let slots = number(args.next())?;
+        if args.next().is_some() {
+            return None;
+        }
+        Some(Options {
+            kind,
+            boxes,
+            own,
+            slots,
+        })
     }
-    match kind.as_str() {
-        "reading" => view::<Reading>(&rt, n, own, w)?,
-        "order" => view::<ShareOrder>(&rt, n, own, w)?,
-        _ => return usage(&rt),
+}
+
+fn number(arg: Option<String>) -> Option<u8> {
+    arg?.as_str().parse().ok()
+}
+
+fn main(rt: HostRuntime) -> anyhow::Result<ExitCode> {
+    let Some(options) = Options::read(env::args(&rt)?) else {
+        eprintln!(rt; "{USAGE}")?;
+        return Ok(ExitCode::FAILURE);
+    };
+    match options.kind {
+        Kind::Reading => view::<Reading>(&rt, options)?,
+        Kind::Order => view::<ShareOrder>(&rt, options)?,
     }
     Ok(ExitCode::SUCCESS)
 }
 
-fn number(arg: Option<String>) -> Option<u8> {
-    let Some(text) = arg else {
-        return None;
-    };
-    match text.as_str().parse::<u8>() {
-        Ok(n) => Some(n),
-        Err(_) => None,
-    }
-}
-
-fn view<K: Entry>(rt: &HostRuntime, n: u8, own: u8, w: u8) -> anyhow::Result<()> {
+fn view<K: Entry>(rt: &HostRuntime, options: Options) -> anyhow::Result<()> {
     let heap = rt.alloc();
-    let mut sends = empty(heap, SLOTS)?;
-    let mut echoes = empty(heap, ROWS)?;
-    let mut readies = empty(heap, ROWS)?;
-    let mut haves = empty(heap, ROWS)?;
-    let mut pages = empty(heap, SLOTS)?;
+    let mut sends = vec![in heap; None; SLOTS]?;
+    let mut echoes = vec![in heap; None; ROWS]?;
+    let mut readies = vec![in heap; None; ROWS]?;
+    let mut haves = vec![in heap; None; ROWS]?;
+    let mut pages = vec![in heap; None; SLOTS]?;
     let mut tables: Tables<'_, K> = Tables::lend(
-        sends.as_mut_slice(),
-        echoes.as_mut_slice(),
-        readies.as_mut_slice(),
-        haves.as_mut_slice(),
-        pages.as_mut_slice(),
+        &mut sends,
+        &mut echoes,
+        &mut readies,
+        &mut haves,
+        &mut pages,
     );
-    match Replica::make(n, own, w, &mut tables) {
+    match Replica::make(options.boxes, options.own, options.slots, &mut tables) {
         Ok(mut replica) => told(rt, &mut replica, &mut tables),
         Err(refusal) => refused(rt, refusal),
     }
-}
-
-// A table of empty cells.
-fn empty<T: Drop>(heap: Global, cells: usize) -> Result<Vec<Option<T>>, AllocError>
-    ensures { IfOk result (λ table. table.items ≡ replicate cells None) }
-{
-    let mut table = Vec::new(heap);
-    for _i in 0..cells {
-        table.push(None)?;
-    }
-    Ok(table)
 }
 
 fn told<K: Entry>(
@@ -103,8 +109,8 @@ fn told<K: Entry>(
     let heap = rt.alloc();
     let mut day = Vec::new(heap);
     rt.stdin().read_to_end(&mut day)?;
-    let lines = replay(replica, tables, heap, day.as_slice())?;
-    rt.stdout().write_all(lines.as_slice())?;
+    let lines = replay(replica, tables, heap, &day)?;
+    rt.stdout().write_all(&lines)?;
     board(rt, replica, tables)?;
     file(rt, replica, tables)
 }
@@ -116,12 +122,12 @@ fn board<K: Entry>(
 ) -> anyhow::Result<()> {
     let heap = rt.alloc();
     let mut frame = vec![in heap; 0u8; ROOM]?;
-    match show(replica, tables, 0, frame.as_mut_slice()) {
+    match show(replica, tables, 0, &mut frame) {
         Ok(shown) => frame.truncate(shown.bytes),
         Err(refusal) => return refused(rt, refusal),
     }
-    let text = record::<K>(heap, frame.as_slice())?;
-    rt.stdout().write_all(text.as_slice())?;
+    let text = record::<K>(heap, &frame)?;
+    rt.stdout().write_all(&text)?;
     Ok(())
 }
 
@@ -131,21 +137,15 @@ fn file<K: Entry>(
     tables: &Tables<'_, K>,
 ) -> anyhow::Result<()> {
     let mut text = vec![in rt.alloc(); 0u8; ROOM]?;
-    match print(replica, tables, text.as_mut_slice()) {
+    match print(replica, tables, &mut text) {
         Ok(len) => text.truncate(len),
         Err(refusal) => return refused(rt, refusal),
     }
-    rt.stdout().write_all(text.as_slice())?;
+    rt.stdout().write_all(&text)?;
     Ok(())
 }
 
 fn refused(rt: &HostRuntime, refusal: Refusal) -> anyhow::Result<()> {
-    let number = u8::from(refusal);
-    println!(rt; "refused;{number}")?;
+    println!(rt; "refused;{refusal}")?;
     Ok(())
-}
-
-fn usage(rt: &HostRuntime) -> anyhow::Result<ExitCode> {
-    eprintln!(rt; "{USAGE}")?;
-    Ok(ExitCode::FAILURE)
 }

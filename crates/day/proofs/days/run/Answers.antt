@@ -1,35 +1,31 @@
-use Rattle.std.proofs.Common.{◌≡◌, vec_items, sym, ap, ◌∙◌}
+use Rattle.std.proofs.Common.{suc, [], ◌∷◌, length, Ok, Err, fold, vec_items, sym, ap, ◌∙◌}
 use Rattle.replica.specs.Store.{store}
-use Rattle.day.specs.Days.{Run, cut_of, cut_at, end, torn, whole}
-use Rattle.day.proofs.Cutting.{lies, over, tears, passes}
+use Rattle.day.specs.Days.{Run, found_of}
+use Rattle.day.proofs.Turning.{turn}
+use Rattle.day.proofs.Cutting.{found_taken, day_found}
 use Rattle.day.proofs.days.run.Goals as goal
 
-pub returns-in-End : goal.returns-in-End
-returns-in-End g c =
+pub loop-found-init : goal.loop-found-init
+loop-found-init g c =
     let k = g.K.Entry in
-    let l = c.loop-text in
-    let r : Run = (vec_items l.text, l.replica, store k.bytes l.tables) in
-    let is : cut_at c.args.day.now l.place ≡ end = sym c.part_at.ensures ∙ ap cut_of c.in-End.is in
-    over k.WIDTH k.valid c.args.day.now l.place l.invariant.0 r _ l.invariant.1 is
-
-pub returns-in-Torn : goal.returns-in-Torn
-returns-in-Torn g c =
-    let k = g.K.Entry in
-    let l = c.loop-text in
-    let r : Run = (vec_items l.text, l.replica, store k.bytes l.tables) in
-    let is : cut_at c.args.day.now l.place ≡ torn = sym c.part_at.ensures ∙ ap cut_of c.in-Torn.is in
-    ap (λ text. (text, l.replica, store k.bytes l.tables)) c.in_ok-push_torn-in-Torn.ensures
-    ∙ tears k.WIDTH k.valid c.args.day.now l.place l.invariant.0 r _ l.invariant.1 is
-
-pub loop-text-preserved : goal.loop-text-preserved
-loop-text-preserved g c =
-    let k = g.K.Entry in
-    let l = c.loop-text in
     let d = c.args.day.now in
-    let j = c.in-Whole.sender in
-    let s = c.in-Whole.bytes.now in
-    let r : Run = (vec_items l.text, l.replica, store k.bytes l.tables) in
-    let is : cut_at d l.place ≡ whole j s = sym c.part_at.ensures ∙ ap cut_of c.in-Whole.is in (
-      lies d l.place j s is,
-      passes k.WIDTH k.valid d l.place l.invariant.0 r _ l.invariant.1 j s _ is c.in_ok-take_in-in-Whole.ensures,
-    )
+    let r : Run = ([], c.args.replica.now, store k.bytes c.args.tables.now) in
+    ap (λ text. fold (found_taken k.WIDTH k.valid) (text, r.1, r.2) c.into_iter-found-iterator.result) c.new-text.ensures.items
+    ∙ ap (fold (found_taken k.WIDTH k.valid) r) (c.into_iter-found-iterator.ensures.into_iter_gives ∙ c.new-found-items.ensures)
+    ∙ sym (day_found (suc (length d)) k.WIDTH k.valid d 0 r)
+
+pub loop-found-preserved-in-Continue-1 : goal.loop-found-preserved-in-Continue-1
+loop-found-preserved-in-Continue-1 g c =
+    let k = g.K.Entry in
+    let l = c.loop-found in
+    let x = c.in-Ok.record in
+    turn (found_taken k.WIDTH k.valid) (Ok (x.sender, x.start, x.bytes.now)) l.found-iterator c.next.new.self (vec_items l.text, l.replica, store k.bytes l.tables) _ _
+    (c.in-Some.ensures.steps ∙ ap (λ f. found_of f ∷ c.next.new.self) c.in-Ok.is) c.in_ok-take_in-in-Ok.ensures l.invariant
+
+pub loop-found-preserved : goal.loop-found-preserved
+loop-found-preserved g c =
+    let k = g.K.Entry in
+    let l = c.loop-found in
+    turn (found_taken k.WIDTH k.valid) (Err c.in-Err.torn.place) l.found-iterator c.next.new.self (vec_items l.text, l.replica, store k.bytes l.tables) _ _
+    (c.in-Some.ensures.steps ∙ ap (λ f. found_of f ∷ c.next.new.self) c.in-Err.is)
+    (ap (λ text. (text, l.replica, store k.bytes l.tables)) c.in_ok-push_torn-in-Err.ensures) l.invariant
