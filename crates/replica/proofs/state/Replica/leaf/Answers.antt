@@ -1,21 +1,32 @@
-use Rattle.std.proofs.Common.{Some, None}
+use Rattle.std.proofs.Common.{Some, None, ap, ◌∙◌, Err}
+use Rattle.std.proofs.lemmas.Result.{err_from_is_err_and}
 use Rattle.replica.specs.Store.{store, paged}
 use Rattle.replica.proofs.Answering.{page_short, page_past, page_found}
+use Rattle.replica.proofs.Accepting.{refused, accepted}
 use Rattle.replica.proofs.state.Replica.leaf.Goals as goal
 
-pub returns-then-not-fit : goal.returns-then-not-fit
-returns-then-not-fit g c = page_short c.args.self.now (store g.K.Entry.bytes c.args.tables.now) c.args.place c.if-not-fit.ensures
+pub returns-in_err-fitted : goal.returns-in_err-fitted
+returns-in_err-fitted g c =
+    let b = g.K.Entry.bytes in
+    let m = c.args.self.now in
+    let p = err_from_is_err_and c.from_residual.result c.from_residual.ensures.1 in
+    let r = refused b m c.args.tables.now c.in_err-fitted.field-0.0 c.in_err-fitted.ensures in
+    rw (p.1, p.2) (ap Err r.1 ∙ page_short m (store b c.args.tables.now) c.args.place r.0)
 
 pub returns-then-place-self : goal.returns-then-place-self
-returns-then-place-self g c = page_past c.args.self.now (store g.K.Entry.bytes c.args.tables.now) c.args.place c.if-not-fit.ensures c.if-place-self.true
+returns-then-place-self g c =
+    let b = g.K.Entry.bytes in
+    let m = c.args.self.now in
+    page_past m (store b c.args.tables.now) c.args.place (accepted b m c.args.tables.now _ c.in_ok-fitted.ensures).1 c.if-place-self.true
 
 pub returns-in_default : goal.returns-in_default
 returns-in_default g c =
-    let t = store g.K.Entry.bytes c.args.tables.now in
-    page_found c.args.self.now t c.args.place c.if-not-fit.ensures c.if-place-self.false None c.in_default.ensures
+    let b = g.K.Entry.bytes in
+    let m = c.args.self.now in
+    page_found m (store b c.args.tables.now) c.args.place (accepted b m c.args.tables.now _ c.in_ok-fitted.ensures).1 c.if-place-self.false None c.in_default.ensures
 
 pub returns : goal.returns
 returns g c =
     let b = g.K.Entry.bytes in
-    let t = store b c.args.tables.now in
-    page_found c.args.self.now t c.args.place c.if-not-fit.ensures c.if-place-self.false (Some (paged b c.in-Some.page)) c.in-Some.ensures
+    let m = c.args.self.now in
+    page_found m (store b c.args.tables.now) c.args.place (accepted b m c.args.tables.now _ c.in_ok-fitted.ensures).1 c.if-place-self.false (Some (paged b c.in-Some.page)) c.in-Some.ensures
