@@ -6,3 +6,4 @@ pub mod Placing
 pub mod Putting
 pub mod Leading
 pub mod Freshness
+pub mod Accepting

@@ -6,6 +6,8 @@
 
 mod book;
 mod claim;
+mod fitted;
+mod fitting;
 mod fresh;
 mod holding;
 mod lending;
@@ -18,6 +20,7 @@ mod settling;
 mod state;
 
 pub use claim::Claim;
+pub use fitted::Fitted;
 pub use lent::{Page, Tables};
 pub use set::Set;
 pub use state::{Replica, Stage};

@@ -24,9 +24,7 @@ impl Replica {
     fn leaf<K: Entry>(&self, tables: &Tables<'_, K>, place: usize) -> Result<Page<K>, Refusal>
         ensures { answered (paged K.bytes) result ≡ page_of self.now (store K.bytes tables.now) place }
     {
-        if !tables.fit(self.set.grid()) {
-            return Err(Refusal::Table);
-        }
+        self.fitted(tables)?;
         if place >= usize::from(self.pages) {
             return Err(Refusal::Page);
         }

@@ -1,19 +1,30 @@
-use Rattle.std.proofs.Common.{ap, sym, ◌∙◌, rules}
+use Rattle.std.proofs.Common.{ap, sym, ◌∙◌, rules, Err}
 use Rattle.std.specs.Option.{option_map}
+use Rattle.std.proofs.lemmas.Result.{err_from_is_err_and}
 use Rattle.cells.proofs.Cellrows.{map_read}
 use Rattle.replica.specs.Store.{store, paged}
 use Rattle.replica.proofs.Answering.{page_short, page_past, page_found, answered_found}
+use Rattle.replica.proofs.Accepting.{refused, accepted}
 use Rattle.replica.proofs.state.Replica.leaf.Goals as goal
 
-pub returns-then-not-fit : goal.returns-then-not-fit
-returns-then-not-fit g c = page_short c.args.self.now (store g.K.Entry.bytes c.args.tables.now) c.args.place (rw c.grid.ensures at c.if-not-fit.ensures)
+pub returns-in_err-fitted : goal.returns-in_err-fitted
+returns-in_err-fitted g c =
+    let b = g.K.Entry.bytes in
+    let m = c.args.self.now in
+    let p = err_from_is_err_and c.from_residual.result c.from_residual.ensures.1 in
+    let r = refused b m c.args.tables.now c.in_err-fitted.field-0.0 c.in_err-fitted.ensures in
+    rw (p.1, p.2) (ap Err r.1 ∙ page_short m (store b c.args.tables.now) c.args.place r.0)
 
 pub returns-then-place-from : goal.returns-then-place-from
-returns-then-place-from g c = page_past c.args.self.now (store g.K.Entry.bytes c.args.tables.now) c.args.place (rw c.grid.ensures at c.if-not-fit.ensures) (search rules)
+returns-then-place-from g c =
+    let b = g.K.Entry.bytes in
+    let m = c.args.self.now in
+    page_past m (store b c.args.tables.now) c.args.place (accepted b m c.args.tables.now _ c.in_ok-fitted.ensures).1 (search rules)
 
 pub returns : goal.returns
 returns g c =
     let b = g.K.Entry.bytes in
+    let m = c.args.self.now in
     let t = c.args.tables.now in
     answered_found b c.get.result c.ok_or.result c.ok_or.ensures.value
-    ∙ page_found c.args.self.now (store b t) c.args.place (rw c.grid.ensures at c.if-not-fit.ensures) (search rules) (option_map (paged b) c.get.result) (ap (option_map (paged b)) c.get.ensures ∙ sym (map_read (paged b) t.pages c.args.place))
+    ∙ page_found m (store b t) c.args.place (accepted b m t _ c.in_ok-fitted.ensures).1 (search rules) (option_map (paged b) c.get.result) (ap (option_map (paged b)) c.get.ensures ∙ sym (map_read (paged b) t.pages c.args.place))
