@@ -4,3 +4,4 @@ pub mod Claims
 pub mod Holding
 pub mod Making
 pub mod Paging
+pub mod Fitting

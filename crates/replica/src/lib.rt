@@ -7,6 +7,8 @@
 mod book;
 mod claim;
 mod claims;
+mod fitted;
+mod fitting;
 mod fresh;
 mod holding;
 mod lending;
@@ -19,6 +21,7 @@ mod settling;
 mod state;
 
 pub use claim::{Bits, Claim};
+pub use fitted::Fitted;
 pub use lent::{Page, Tables};
 pub use set::Set;
 pub use state::{Replica, Stage};
