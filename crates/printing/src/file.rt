@@ -12,7 +12,7 @@ use crate::sink::{Cursor, Length, Sink};
 use crate::text::put_cell;
 use common::Refusal;
 use entry::Entry;
-use replica::{Page, Replica, Tables};
+use replica::{Fitted, Page, Replica, Tables};
 
 // Writes the file of a replica's book to the front of `out`; answers how long it is. A call that is declined
 // leaves `out` as it was.
@@ -24,18 +24,19 @@ pub fn print<K: Entry>(
     ensures value { (numbered result, out.new) ≡ print_of K.heading K.columns replica.now (store K.bytes tables.now) out.old }
     ensures grid { IfOk result (λ len. grid_in (take len out.new) ≡ grid_of K.heading K.columns replica.now.set.n (book_of replica.now (store K.bytes tables.now))) }
 {
-    let set = replica.set;
-    if !tables.fit(set.n, set.w) {
-        return Err(Refusal::Table);
-    }
+    let Fitted {
+        replica,
+        tables,
+        ..
+    } = replica.fitted(tables)?;
     let pages = counted(tables.pages, replica.pages);
     let mut length = Length { bytes: 0 };
-    put_file(&mut length, set.n, pages);
+    put_file(&mut length, replica.set.n, pages);
     if out.len() < length.bytes {
         return Err(Refusal::File);
     }
     let mut front = Cursor { out, at: 0 };
-    put_file(&mut front, set.n, pages);
+    put_file(&mut front, replica.set.n, pages);
     Ok(front.at)
 }
 
