@@ -1,9 +1,10 @@
--- Bytes laid over others, one part behind the other.
+-- Parts put one behind the other: counted, and laid over other bytes.
 use Rattle.std.specs.Prelude.{◌≡◌, ℕ, ◌+◌, ◌-◌, ◌^◌, ◌<◌, ◌≤◌, List, [], ◌++◌, length, take, drop, min}
 use Rattle.std.proofs.Common.{sym, ap, ◌∙◌, append_assoc, add-zero, arith, length-append, length-drop, take-append-drop, length-take-le, drop-drop}
 use Rattle.std.proofs.lemmas.List.{take_at, drop_at}
 use Rattle.printing.specs.Texts.{laid, Laid}
 
+-- a count that stops at the greatest one
 pub none_counted : (n : ℕ) → n < 2 ^ 64 → n ≡ min (n + 0) (2 ^ 64 - 1)
 none_counted n h = omega arith
 

@@ -12,8 +12,10 @@ pub trait Sink {
     fn put(&mut self, bytes: &[u8])
         ensures { put_gives self.old bytes.now self.new };
 
+    // putting nothing leaves it as it is
     ghost nothing: { (s : Self) → put_gives s [] s };
 
+    // two parts are one
     ghost joined: { (s m t : Self) (a b : List ℕ) → put_gives s a m → put_gives m b t → put_gives s (a ++ b) t };
 }
 

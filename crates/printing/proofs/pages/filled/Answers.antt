@@ -10,6 +10,6 @@ use Rattle.printing.proofs.pages.filled.Goals as goal
 pub returns : goal.returns
 returns g c =
     let cells = c.args.pages.now in
-    count_from_yields_List _ _ c.count.ensures.ran
+    count_from_yields_List c.take_while.result c.count.result c.count.ensures.ran
     (YieldsList-from_take_while _ is_some (YieldsList-from_slice cells cc) c.take_while.ensures.closure c.take_while.ensures.done (λ x b q k. search (rules, tests)))
     ∙ length-prefix_len is_some cells ∙ leading_long (paged g.K.Entry.bytes) cells
