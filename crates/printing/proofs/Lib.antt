@@ -1,6 +1,5 @@
-pub mod Laying
-pub mod Decimals
-pub mod Reading
+pub mod Putting
+pub mod Columns
 pub mod Leading
 pub mod Cutting
 pub mod Rows

@@ -1,3 +1,4 @@
 pub mod Texts
+pub mod Laying
 pub mod Files
 pub mod Grids

@@ -6,6 +6,7 @@
 mod file;
 mod lines;
 mod pages;
+mod sink;
 mod text;
 
 pub use file::print;

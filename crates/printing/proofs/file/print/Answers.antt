@@ -1,46 +1,35 @@
-use Rattle.std.proofs.Common.{map, take, ap, ◌∙◌, arith}
-use Rattle.std.specs.Option.{option_map}
-use Rattle.replica.specs.Store.{store, paged}
-use Rattle.replica.specs.View.{leading}
-use Rattle.printing.proofs.Filing.{book_is, print_short, print_long, print_done, print_grid}
+use Rattle.std.proofs.Common.{ℕ, List, take, Ok, Err, ap, ◌∙◌, arith, rules}
+use Rattle.std.proofs.lemmas.Result.{err_from_is_err_and}
+use Rattle.printing.specs.Grids.{grid_in}
+use Rattle.printing.proofs.Filing.{print_unfit, print_long, print_done, print_grid}
 use Rattle.printing.proofs.file.print.Goals as goal
 
-pub returns-then-not-fit : goal.returns-then-not-fit
-returns-then-not-fit g c =
+pub returns-in_err-replica-clause-value : goal.returns-in_err-replica-clause-value
+returns-in_err-replica-clause-value g c =
     let e = g.K.Entry in
-    record {
-      value = print_short e.heading e.columns c.args.replica.now (store e.bytes c.args.tables.now) c.args.out.now (rw c.grid.ensures at c.if-not-fit.ensures);
-      grid = tt;
-    }
+    let p = err_from_is_err_and c.from_residual.result c.from_residual.ensures.1 in
+    print_unfit e.bytes e.heading e.columns c.args.replica.now c.args.tables.now c.args.out.now c.in_err-replica.field-0.0 c.from_residual.result (p.1 ∙ ap Err p.2) c.in_err-replica.ensures
 
-pub file_len-requires : goal.file_len-requires
-file_len-requires g c = c.counted-pages.ensures.few
-
-pub returns-then-out-file_len : goal.returns-then-out-file_len
-returns-then-out-file_len g c =
+pub returns-then-out-length-clause-value : goal.returns-then-out-length-clause-value
+returns-then-out-length-clause-value g c =
     let e = g.K.Entry in
-    let m = c.args.replica.now in
-    let cells = c.counted-pages.result.now in
-    let book = leading (map (option_map (paged e.bytes)) cells) in
-    let is = book_is e.bytes m c.args.tables.now cells (c.counted-pages.ensures.value ∙ ap (take m.pages) c.as_slice.ensures) in
-    record {
-      value = print_long e.heading e.columns m (store e.bytes c.args.tables.now) c.args.out.now (rw c.grid.ensures at c.if-not-fit.ensures) book is
-          c.file_len.result c.file_len.ensures c.if-out-file_len.true;
-      grid = tt;
-    }
+    let l = c.in_ok-replica.field-0 in
+    print_long e.bytes e.heading e.columns c.args.replica.now c.args.tables.now c.args.out.now l.replica.now l.tables.now l.long c.in_ok-replica.ensures c.book_cells-pages.result.now c.book_cells-pages.ensures (omega (arith, c.put_file.ensures (omega arith)))
 
-pub put_file-requires : goal.put_file-requires
-put_file-requires g c = record { few = c.counted-pages.ensures.few; room = omega (arith, c.file_len.ensures, c.if-out-file_len.false) }
-
-pub returns : goal.returns
-returns g c =
+pub returns-clause-value : goal.returns-clause-value
+returns-clause-value g c =
     let e = g.K.Entry in
-    let m = c.args.replica.now in
-    let t = store e.bytes c.args.tables.now in
-    let cells = c.counted-pages.result.now in
-    let book = leading (map (option_map (paged e.bytes)) cells) in
-    let is = book_is e.bytes m c.args.tables.now cells (c.counted-pages.ensures.value ∙ ap (take m.pages) c.as_slice.ensures) in
-    record {
-      value = print_done e.heading e.columns m t c.args.out.now (rw c.grid.ensures at c.if-not-fit.ensures) book is c.put_file.result c.put_file.new.out c.put_file.ensures;
-      grid = print_grid e.heading e.columns m t c.args.out.now (rw c.grid.ensures at c.if-not-fit.ensures) book is c.put_file.result c.put_file.new.out c.put_file.ensures;
-    }
+    let l = c.in_ok-replica.field-0 in
+    let s = c.put_file-2.new.sink in
+    let file = c.put_file-2.ensures.1 (omega (arith, c.put_file.ensures (omega arith))) in
+    ap (λ (o : List ℕ). (Ok s.at, o)) (search rules)
+    ∙ print_done e.bytes e.heading e.columns c.args.replica.now c.args.tables.now c.args.out.now l.replica.now l.tables.now l.long c.in_ok-replica.ensures c.book_cells-pages.result.now c.book_cells-pages.ensures s.at s.out.now file
+
+pub returns-clause-grid : goal.returns-clause-grid
+returns-clause-grid g c =
+    let e = g.K.Entry in
+    let l = c.in_ok-replica.field-0 in
+    let s = c.put_file-2.new.sink in
+    let file = c.put_file-2.ensures.1 (omega (arith, c.put_file.ensures (omega arith))) in
+    ap (λ (o : List ℕ). grid_in (take s.at o)) (search rules)
+    ∙ print_grid e.bytes e.heading e.columns c.args.replica.now c.args.tables.now c.args.out.now l.replica.now l.tables.now l.long c.in_ok-replica.ensures c.book_cells-pages.result.now c.book_cells-pages.ensures s.at s.out.now file

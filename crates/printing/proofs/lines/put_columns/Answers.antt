@@ -1,37 +1,21 @@
-use Rattle.std.proofs.Common.{◌+◌, drop, ap, arith}
-use Rattle.printing.specs.Texts.{cell_of}
+use Rattle.std.proofs.Common.{◌≡◌, ◌+◌, ◌∷◌, drop, ap, ◌∙◌, arith}
+use Rattle.std.specs.List.{slice_get}
 use Rattle.printing.specs.Files.{cells_of}
-use Rattle.printing.proofs.Laying.{start, fits, on, over}
-use Rattle.printing.proofs.Reading.{next, none, few}
+use Rattle.printing.proofs.Putting.{on, over}
+use Rattle.printing.proofs.Columns.{next, none}
 use Rattle.printing.proofs.lines.put_columns.Goals as goal
 
-pub loop-n-init : goal.loop-n-init
-loop-n-init g c = start c.args.out.now (cells_of (g.K.Entry.columns (g.K.Entry.bytes c.args.x.now))) c.args.at c.requires
-
-pub put_cell-end-requires : goal.put_cell-end-requires
-put_cell-end-requires g c =
+pub returns-in_default : goal.returns-in_default
+returns-in_default g c =
     let ns = g.K.Entry.columns (g.K.Entry.bytes c.args.x.now) in
-    let i = c.loop-n.i in
-    let one = next ns i c.in-Some.n c.in-Some.ensures in
-    fits (cell_of c.in-Some.n) (cells_of (drop (i + 1) ns)) (ap cells_of one.is) c.loop-n.invariant
+    let end = none ns c.loop-i.i-iterator.start (c.in_default.ensures ∙ ap (slice_get ns) c.in-Some.ensures.steps.0) in
+    over g.met.S.Sink.nothing (ap cells_of end) c.loop-i.invariant
 
-pub overflow_add-i : goal.overflow_add-i
-overflow_add-i g c =
-    let m = g.met.K.Entry in
+pub loop-i-preserved : goal.loop-i-preserved
+loop-i-preserved g c =
     let ns = g.K.Entry.columns (g.K.Entry.bytes c.args.x.now) in
-    omega (arith, (next ns c.loop-n.i c.in-Some.n c.in-Some.ensures).below, few g.K.Entry.heading ns m.brief (m.matched (g.K.Entry.bytes c.args.x.now) (m.sound c.args.x.now)))
-
-pub loop-n-smaller : goal.loop-n-smaller
-loop-n-smaller g c = omega (arith, (next (g.K.Entry.columns (g.K.Entry.bytes c.args.x.now)) c.loop-n.i c.in-Some.n c.in-Some.ensures).below)
-
-pub loop-n-preserved : goal.loop-n-preserved
-loop-n-preserved g c =
-    let ns = g.K.Entry.columns (g.K.Entry.bytes c.args.x.now) in
-    let i = c.loop-n.i in
-    let one = next ns i c.in-Some.n c.in-Some.ensures in
-    on (cell_of c.in-Some.n) (cells_of (drop (i + 1) ns)) (ap cells_of one.is) c.loop-n.invariant c.put_cell-end.ensures
-
-pub returns : goal.returns
-returns g c =
-    let ns = g.K.Entry.columns (g.K.Entry.bytes c.args.x.now) in
-    over (ap cells_of (none ns c.loop-n.i c.in_default.ensures)) c.loop-n.invariant
+    let n = c.in-Some-column.n in
+    let i = c.loop-i.i-iterator.start in
+    let further : i + 1 ≡ c.next.new.self.start = omega (arith, c.in-Some.ensures.steps) in
+    let more = next ns i n (c.in-Some-column.ensures ∙ ap (slice_get ns) c.in-Some.ensures.steps.0) ∙ ap (λ k. n ∷ drop k ns) further in
+    on g.met.S.Sink.joined (ap cells_of more) c.loop-i.invariant c.put_cell.ensures

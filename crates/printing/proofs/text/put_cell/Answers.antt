@@ -1,5 +1,5 @@
-use Rattle.printing.proofs.Laying.{then}
+use Rattle.printing.proofs.Putting.{then}
 use Rattle.printing.proofs.text.put_cell.Goals as goal
 
 pub returns : goal.returns
-returns c = then c.put-at.ensures c.put_decimal.ensures
+returns g c = then g.met.S.Sink.joined c.put.ensures c.put_decimal.ensures
