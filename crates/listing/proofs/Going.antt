@@ -1,64 +1,97 @@
--- The list of a frame, one statement after the other.
-use Rattle.std.proofs.Common.{◌≡◌, ℕ, ◌+◌, ◌≤◌, Bool, true, false, List, [], ◌++◌, length, drop, Some, None, Ok, Err, Option, Result, sym, refl, ap, ◌∙◌, append_assoc, append-nil, add-zero, add_assoc, zero-add, arith, length-append, length-drop, drop-drop}
+-- The list of a frame, one step of its walk after the other.
+use Rattle.std.proofs.Common.{◌≡◌, ℕ, ◌+◌, Bool, true, false, cond, List, [], ◌∷◌, ◌++◌, length, Some, None, Ok, Err, Option, Result, MatchResult, sym, refl, ap, ◌∙◌, append_assoc, append-nil, add-zero, add_assoc, zero-add, arith}
+use Rattle.std.specs.Option.{option_map}
 use Rattle.common.specs.Refusals.{number_of}
 use Rattle.common.specs.declared.refusal.Refusal.TheVariants as refusals
-use Rattle.wire.specs.Frames.{next_of, Walk, onward, walk_of}
-use Rattle.wire.proofs.Walking.{Piece, first_piece, next_first, walk_first}
-use Rattle.listing.specs.Rows.{Kind}
-use Rattle.listing.specs.Lists.{part_row, added, Listed, onto, list_from}
+use Rattle.wire.specs.Statements.{Message, item_in}
+use Rattle.wire.specs.Codec.{parse_of}
+use Rattle.wire.specs.Frames.{Statements}
+use Rattle.wire.specs.Steps.{Step, step_of, steps_from, parts_in}
+use Rattle.wire.specs.declared.part.Part.{Part}
+use Rattle.wire.specs.declared.part.Fault.{Fault}
+use Rattle.listing.specs.Rows.{Kind, row_of}
+use Rattle.listing.specs.Lists.{item_read, message_row, part_row, holds, sound_at, part_read, Listed, onto, list_from}
 
 -- a list behind rows that stand already
 abbrev pub behind : List ℕ → ℕ → Listed → Listed
 behind rows n l = record { rows = rows ++ l.rows; count = n + l.count; fault = l.fault }
 
--- the list of a walk
-abbrev pub list_walk : Kind → ℕ → Walk → Listed
-list_walk k p walk = list_from k p walk.found walk.stop
-
--- what is still to be listed, from a place on
-abbrev pub rest : Kind → List ℕ → ℕ → Listed
-rest k s p = list_walk k p (walk_of k.width (drop p s))
-
 pub behind_none : (l : Listed) → behind [] 0 l ≡ l
 behind_none l = λ i. record { rows = l.rows; count = zero-add l.count i; fault = l.fault }
 
-module _ (k : Kind) (s : List ℕ) (p : ℕ) (inside : p ≤ length s) where
-  goes : (v : Result (Option (List ℕ)) ℕ) → next_of k.width s p ≡ v → rest k s p ≡ list_walk k p (onward v (λ t. walk_of k.width (drop (length t) (drop p s))))
-  goes v e = ap (list_walk k p) (walk_first k.width (drop p s) v (sym (next_first k.width p s inside) ∙ e))
+pub behind_end : (rows : List ℕ) (n : ℕ) (fault : Option (ℕ × ℕ)) → behind rows n (record { rows = []; count = 0; fault = fault }) ≡ record { rows = rows; count = n; fault = fault }
+behind_end rows n fault = λ i. record { rows = append-nil rows i; count = add-zero n i; fault = fault }
 
-  pub piece : (t : List ℕ) → next_of k.width s p ≡ Ok (Some t) → Piece k.width (drop p s) t
-  piece t e = first_piece k.width (drop p s) t (sym (next_first k.width p s inside) ∙ e)
+-- the list of a walk's steps
+abbrev pub listed : Kind → List Step → Listed
+listed k [] = record { rows = []; count = 0; fault = None }
+listed k (Ok part ∷ more) = onto (part_row k part.0 part.1) part.0 (listed k more)
+listed k (Err fault ∷ more) = record { rows = []; count = 0; fault = Some fault }
 
-  -- the next statement lies inside the frame
-  pub within : (t : List ℕ) → next_of k.width s p ≡ Ok (Some t) → p + length t ≤ length s
-  within t e =
-      let whole : length (drop p s) ≡ length t + length (drop (length t) (drop p s)) = ap length (piece t e).cut ∙ length-append t (drop (length t) (drop p s)) in
-      omega (arith, length-drop p s)
+pub listed_walk : (k : Kind) (p : ℕ) (ts : List (List ℕ)) (stop : Option ℕ) → listed k (steps_from p ts stop) ≡ list_from k p ts stop
+listed_walk k p [] None = refl
+listed_walk k p [] (Some e) = refl
+listed_walk k p (t ∷ ts) stop = ap (onto (part_row k p t) p) (listed_walk k (p + length t) ts stop)
 
-  module _ (rows : List ℕ) (n : ℕ) where
-    pub at_end : next_of k.width s p ≡ Ok None → behind rows n (rest k s p) ≡ record { rows = rows; count = n; fault = None }
-    at_end e = ap (behind rows n) (goes (Ok None) e) ∙ (λ i. record { rows = append-nil rows i; count = add-zero n i; fault = None })
+-- a sound statement, with its place or not
+item_holds : (valid : List ℕ → Bool) (o : Option (List ℕ)) → holds valid o ≡ true → item_read valid o ≡ Some o
+item_holds valid None h = refl
+item_holds valid (Some x) h = rw h refl
 
-    pub at_stop : (r : ℕ) → next_of k.width s p ≡ Err r → behind rows n (rest k s p) ≡ record { rows = rows; count = n; fault = Some (r, p) }
-    at_stop r e = ap (behind rows n) (goes (Err r) e) ∙ (λ i. record { rows = append-nil rows i; count = add-zero n i; fault = Some (r, p) })
+item_fails : (valid : List ℕ → Bool) (o : Option (List ℕ)) → holds valid o ≡ false → item_read valid o ≡ None
+item_fails valid None h = absurd (let z : ◌≡◌ {A = ℕ} 0 1 = cc in omega arith)
+item_fails valid (Some x) h = rw h refl
 
-    pub at_none : (t : List ℕ) → next_of k.width s p ≡ Ok (Some t) → part_row k p t ≡ None → behind rows n (rest k s p) ≡ record { rows = rows; count = n; fault = Some (number_of refusals.Entry, p) }
-    at_none t e f =
-        ap (behind rows n) (goes (Ok (Some t)) e ∙ ap (λ o. onto o p (list_walk k (p + length t) (walk_of k.width (drop (length t) (drop p s))))) f)
-        ∙ (λ i. record { rows = append-nil rows i; count = add-zero n i; fault = Some (number_of refusals.Entry, p) })
+module _ (k : Kind) (p : ℕ) (t : List ℕ) where
+  sound_found : (b : Bool) (q : ℕ) (m n : Message) → holds k.valid (item_in n) ≡ b → cond {A = Result (ℕ × Message) (ℕ × ℕ)} b (Ok (p, n)) (Err (number_of refusals.Entry, p)) ≡ Ok (q, m)
+      → message_row k p (Ok n) ≡ Some (row_of k q m)
+  sound_found true q m n h e =
+      let same : ◌≡◌ {A = ℕ × Message} (p, n) (q, m) = cc in
+      ap (option_map (λ _. row_of k p n)) (item_holds k.valid (item_in n) h) ∙ ap (λ (x : ℕ × Message). Some (row_of k x.0 x.1)) same
+  sound_found false q m n h e = absurd (let z : ◌≡◌ {A = ℕ} 0 1 = cc in omega arith)
 
-    pub at_row : (t row : List ℕ) → next_of k.width s p ≡ Ok (Some t) → part_row k p t ≡ Some row → behind rows n (rest k s p) ≡ behind (rows ++ row) (n + 1) (rest k s (p + length t))
-    at_row t row e f =
-        let on : drop (length t) (drop p s) ≡ drop (p + length t) s = drop-drop (length t) p s in
-        let more = rest k s (p + length t) in
-        ap (behind rows n) (goes (Ok (Some t)) e ∙ (λ i. onto (f i) p (list_walk k (p + length t) (walk_of k.width (on i)))))
-        ∙ (λ i. record { rows = sym (append_assoc rows row more.rows) i; count = sym (add_assoc n 1 more.count) i; fault = more.fault })
+  pub row_found : (q : ℕ) (m : Message) → part_read k p t ≡ Ok (q, m) → part_row k p t ≡ Some (row_of k q m)
+  row_found q m e = by (parse_of k.width t) refl
+    where
+      by : (v : Result Message ℕ) → parse_of k.width t ≡ v → part_row k p t ≡ Some (row_of k q m)
+      by (Ok n) is = ap (message_row k p) is ∙ sound_found (holds k.valid (item_in n)) q m n refl (sym (ap (sound_at k p) is) ∙ e)
+      by (Err r) is = absurd (let f = sym (ap (sound_at k p) is) ∙ e in let z : ◌≡◌ {A = ℕ} 0 1 = cc in omega arith)
 
--- what an answer of `push_row` says
-pub no_row : (o : Option (List ℕ)) (ok : Bool) (rows was : List ℕ) → (ok, rows) ≡ added o was → ok ≡ false → (o ≡ None) × (rows ≡ was)
-no_row None ok rows was e f = (refl, ap (λ (p : Bool × List ℕ). p.1) e)
-no_row (Some row) ok rows was e f = absurd (let t : true ≡ false = sym (ap (λ (p : Bool × List ℕ). p.0) e) ∙ f in let z : ◌≡◌ {A = ℕ} 0 1 = cc in omega arith)
+  sound_missed : (b : Bool) (m : Message) (f : ℕ × ℕ) → holds k.valid (item_in m) ≡ b → cond {A = Result (ℕ × Message) (ℕ × ℕ)} b (Ok (p, m)) (Err (number_of refusals.Entry, p)) ≡ Err f
+      → (message_row k p (Ok m) ≡ None) × (f ≡ (number_of refusals.Entry, p))
+  sound_missed true m f h e = absurd (let z : ◌≡◌ {A = ℕ} 0 1 = cc in omega arith)
+  sound_missed false m f h e = (ap (option_map (λ _. row_of k p m)) (item_fails k.valid (item_in m) h), cc)
 
-pub one_row : (o : Option (List ℕ)) (ok : Bool) (rows was : List ℕ) → (ok, rows) ≡ added o was → ok ≡ true → (row : List ℕ) × (o ≡ Some row) × (rows ≡ was ++ row)
-one_row None ok rows was e f = absurd (let t : false ≡ true = sym (ap (λ (p : Bool × List ℕ). p.0) e) ∙ f in let z : ◌≡◌ {A = ℕ} 0 1 = cc in omega arith)
-one_row (Some row) ok rows was e f = (row, refl, ap (λ (p : Bool × List ℕ). p.1) e)
+  pub row_missed : (m : Message) (f : ℕ × ℕ) → parse_of k.width t ≡ Ok m → part_read k p t ≡ Err f → (part_row k p t ≡ None) × (f ≡ (number_of refusals.Entry, p))
+  row_missed m f is e =
+      let miss = sound_missed (holds k.valid (item_in m)) m f refl (sym (ap (sound_at k p) is) ∙ e) in
+      (ap (message_row k p) is ∙ miss.0, miss.1)
+
+-- one turn of the list: a step is a fault, or a part that is read
+module _ (k : Kind) (rows : List ℕ) (n : ℕ) (more : List Step) where
+  pub at_fault :
+      (step : Result Part Fault) (f : Fault) → Statements k.width (parts_in (step_of step ∷ more))
+      → MatchResult step (λ part. part_read k part.place part.bytes.now ≡ Err (number_of f.refusal, f.place)) (λ e. f ≡ e)
+      → behind rows n (listed k (step_of step ∷ more)) ≡ record { rows = rows; count = n; fault = Some (number_of f.refusal, f.place) }
+  at_fault (Err e) f whole is =
+      behind_end rows n (Some (number_of e.refusal, e.place))
+      ∙ ap (λ (e : Fault). record { rows = rows; count = n; fault = Some (number_of e.refusal, e.place) }) (sym is)
+  at_fault (Ok part) f whole is =
+      let missed = row_missed k part.place part.bytes.now whole.0.0 (number_of f.refusal, f.place) whole.0.1 is in
+      ap (λ o. behind rows n (onto o part.place (listed k more))) missed.0
+      ∙ behind_end rows n (Some (number_of refusals.Entry, part.place)) ∙ ap (λ f. record { rows = rows; count = n; fault = Some f }) (sym missed.1)
+
+  pub at_row :
+      (step : Result Part Fault) (p : ℕ) (m : Message)
+      → MatchResult step (λ part. part_read k part.place part.bytes.now ≡ Ok (p, m)) (λ e. ⊥)
+      → behind rows n (listed k (step_of step ∷ more)) ≡ behind (rows ++ row_of k p m) (n + 1) (listed k more)
+  at_row (Err e) p m is = absurd is
+  at_row (Ok part) p m is =
+      let row = row_of k p m in
+      let l = listed k more in
+      ap (λ o. behind rows n (onto o part.place l)) (row_found k part.place part.bytes.now p m is)
+      ∙ (λ i. record { rows = sym (append_assoc rows row l.rows) i; count = sym (add_assoc n 1 l.count) i; fault = l.fault })
+
+  pub whole_after : (step : Result Part Fault) → Statements k.width (parts_in (step_of step ∷ more)) → Statements k.width (parts_in more)
+  whole_after (Ok part) whole = whole.1
+  whole_after (Err e) whole = whole

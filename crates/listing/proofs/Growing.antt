@@ -1,6 +1,6 @@
 -- Text that grows at its end.
-use Rattle.std.proofs.Common.{◌≡◌, ℕ, ◌+◌, ◌<◌, ◌≤◌, List, [], ◌∷◌, ◌++◌, map, length, get_or, take, None, Option, sym, refl, ap, ◌∙◌, append_assoc, append-nil, add-one, take_all}
-use Rattle.std.proofs.lemmas.List.{map_more}
+use Rattle.std.proofs.Common.{◌≡◌, ℕ, ◌+◌, ◌<◌, List, [], ◌∷◌, ◌++◌, map, length, get_or, take, None, Option, sym, ap, ◌∙◌, append_assoc, append-nil, add-one}
+use Rattle.std.proofs.lemmas.List.{map_more, map_push}
 use Rattle.std.specs.List.{slice_get}
 use Rattle.listing.specs.Rows.{text_of, following, padded}
 
@@ -14,13 +14,6 @@ following_push (u ∷ ts) t = ap (λ l. 59 ∷ l) (ap (λ l. u ++ l) (following_
 
 pub following_more : (cs : List (Option ℕ)) (i : ℕ) → i < length cs → following (map text_of (take (i + 1) cs)) ≡ following (map text_of (take i cs)) ++ (59 ∷ text_of (get_or cs i None))
 following_more cs i h = ap following (map_more text_of cs i None h) ∙ following_push (map text_of (take i cs)) (text_of (get_or cs i None))
-
-pub following_all : (cs : List (Option ℕ)) (i : ℕ) → length cs ≤ i → following (map text_of (take i cs)) ≡ following (map text_of cs)
-following_all cs i h = ap (λ l. following (map text_of l)) (take_all i cs h)
-
-map_push : {X Y : Type 0} (f : X → Y) (xs : List X) (x : X) → map f (xs ++ (x ∷ [])) ≡ map f xs ++ (f x ∷ [])
-map_push f [] x = refl
-map_push f (y ∷ xs) x = ap (λ l. f y ∷ l) (map_push f xs x)
 
 pub following_padded : (ns : List ℕ) (i : ℕ) → following (map text_of (padded (i + 1) ns)) ≡ following (map text_of (padded i ns)) ++ (59 ∷ text_of (slice_get ns i))
 following_padded ns i =

@@ -1,5 +1,5 @@
 -- The statements of a frame as rows, up to its end or its first fault.
-use Rattle.std.specs.Prelude.{◌≡◌, ℕ, ◌+◌, ◌≤◌, Bool, true, false, cond, ◌⊎◌, List, [], ◌∷◌, ◌++◌, length, take, Some, None, Ok, Err, Option, Result}
+use Rattle.std.specs.Prelude.{◌≡◌, ℕ, ◌+◌, ◌≤◌, Bool, true, cond, ◌⊎◌, List, [], ◌∷◌, ◌++◌, length, take, Some, None, Ok, Err, Option, Result}
 use Rattle.std.specs.Option.{option_map}
 use Rattle.common.specs.Refusals.{number_of}
 use Rattle.common.specs.declared.refusal.Refusal.TheVariants as refusals
@@ -21,10 +21,18 @@ message_row k p (Err e) = None
 abbrev pub part_row : Kind → ℕ → List ℕ → Option (List ℕ)
 part_row k p t = message_row k p (parse_of k.width t)
 
--- a row put behind others, and whether there was one
-abbrev pub added : Option (List ℕ) → List ℕ → Bool × List ℕ
-added None rows = (false, rows)
-added (Some row) rows = (true, rows ++ row)
+-- its entry, if it has one, is of the kind
+abbrev pub holds : (List ℕ → Bool) → Option (List ℕ) → Bool
+holds valid None = true
+holds valid (Some x) = valid x
+
+abbrev pub sound_at : Kind → ℕ → Result Message ℕ → Result (ℕ × Message) (ℕ × ℕ)
+sound_at k p (Ok m) = cond (holds k.valid (item_in m)) (Ok (p, m)) (Err (number_of refusals.Entry, p))
+sound_at k p (Err e) = Err (e, p)
+
+-- what is read of one statement's bytes: the statement, or why it is not sound, each with its place
+abbrev pub part_read : Kind → ℕ → List ℕ → Result (ℕ × Message) (ℕ × ℕ)
+part_read k p t = sound_at k p (parse_of k.width t)
 
 -- the rows of the sound statements, how many they are, and the refusal's number and the place where no more follow,
 -- if that is no end

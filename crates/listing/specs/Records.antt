@@ -2,14 +2,14 @@
 use Rattle.std.specs.Prelude.{ℕ, List, [], ◌∷◌, ◌++◌, length, Some, None, vec_items, codes, decimal, Option}
 use Rattle.std.specs.Option.{option_map}
 use Rattle.common.specs.Refusals.{number_of}
-use Rattle.common.specs.declared.refusal.Refusal.{Refusal}
+use Rattle.wire.specs.declared.part.Fault.{Fault}
 use Rattle.listing.specs.Rows.{Kind, following}
 use Rattle.listing.specs.Lists.{Listed, list_of}
 use Rattle.listing.specs.declared.listing.Listing.{Listing}
 
 -- a fault by its number
-abbrev pub fault_in : Option (Refusal × ℕ) → Option (ℕ × ℕ)
-fault_in o = option_map (λ p. (number_of p.0, p.1)) o
+abbrev pub fault_in : Option Fault → Option (ℕ × ℕ)
+fault_in o = option_map (λ f. (number_of f.refusal, f.place)) o
 
 -- what a `Listing` holds
 abbrev pub listed_of : Listing → Listed

@@ -7,6 +7,7 @@ mod cells;
 mod listing;
 mod lists;
 mod records;
+mod row;
 mod rows;
 
 pub use listing::Listing;

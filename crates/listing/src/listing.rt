@@ -1,4 +1,4 @@
-use common::Refusal;
+use wire::Fault;
 
 // What is listed of a frame.
 #[derive(Drop)]
@@ -8,5 +8,5 @@ pub struct Listing {
     // How many they are.
     pub count: usize,
     // Why and where no more follow, if that is not the frame's end.
-    pub fault: Option<(Refusal, usize)>,
+    pub fault: Option<Fault>,
 }

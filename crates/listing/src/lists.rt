@@ -4,11 +4,10 @@ ghost use Rattle.listing.specs.Lists.{list_of};
 ghost use Rattle.listing.specs.Records.{listed_of};
 
 use crate::listing::Listing;
-use crate::rows::push_row;
-use common::Refusal;
+use crate::row::Row;
 use entry::Entry;
 use std::alloc::{AllocError, Global};
-use wire::next;
+use wire::walk;
 
 // Lists the statements of a frame.
 pub fn list<K: Entry>(heap: Global, frame: &[u8]) -> Result<Listing, AllocError>
@@ -16,24 +15,16 @@ pub fn list<K: Entry>(heap: Global, frame: &[u8]) -> Result<Listing, AllocError>
 {
     let mut rows = Vec::new(heap);
     let mut count = 0;
-    let mut place = 0;
-    loop {
-        let found = match next::<K>(frame, place) {
-            Ok(found) => found,
-            Err(e) => {
-                let fault = Some((e, place));
+    for step in walk::<K>(frame) {
+        match step.and_then(|part| Row::<K>::read(part)) {
+            Ok(row) => row.push(&mut rows)?,
+            Err(fault) => {
+                let fault = Some(fault);
                 return Ok(Listing { rows, count, fault });
             }
-        };
-        let Some(part) = found else {
-            let fault = None;
-            return Ok(Listing { rows, count, fault });
-        };
-        if !push_row::<K>(&mut rows, heap, place, part)? {
-            let fault = Some((Refusal::Entry, place));
-            return Ok(Listing { rows, count, fault });
         }
-        place += part.len();
         count += 1;
     }
+    let fault = None;
+    Ok(Listing { rows, count, fault })
 }

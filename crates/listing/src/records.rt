@@ -5,9 +5,9 @@ ghost use Rattle.listing.specs.Records.{note_of, heading_of, fault_in, fault_of,
 
 use crate::cells::push_cell;
 use crate::lists::list;
-use common::Refusal;
 use entry::Entry;
 use std::alloc::{AllocError, Global};
+use wire::Fault;
 
 // The record of a frame.
 pub fn record<K: Entry>(heap: Global, frame: &[u8]) -> Result<Vec<u8>, AllocError>
@@ -22,26 +22,20 @@ fn assembled<K: Entry>(heap: Global, frame: &[u8]) -> Result<Vec<u8>, AllocError
 {
     let listing = list::<K>(heap, frame)?;
     let mut out = Vec::new(heap);
-    push_note(&mut out, heap, b"frame", frame.len(), listing.count)?;
+    push_note(&mut out, b"frame", frame.len(), listing.count)?;
     push_heading::<K>(&mut out)?;
     out.extend_from_slice(listing.rows.as_slice())?;
-    push_fault(&mut out, heap, listing.fault)?;
+    push_fault(&mut out, listing.fault)?;
     Ok(out)
 }
 
 // A row of a word and two numbers.
-fn push_note(
-    out: &mut Vec<u8>,
-    heap: Global,
-    word: &[u8],
-    a: usize,
-    b: usize,
-) -> Result<(), AllocError>
+fn push_note(out: &mut Vec<u8>, word: &[u8], a: usize, b: usize) -> Result<(), AllocError>
     ensures { OnOk result (out.new.items ≡ out.old.items ++ note_of word.now a b) }
 {
     out.extend_from_slice(word)?;
-    push_cell(out, heap, Some(a))?;
-    push_cell(out, heap, Some(b))?;
+    push_cell(out, Some(a))?;
+    push_cell(out, Some(b))?;
     out.push(b'\n')?;
     Ok(())
 }
@@ -55,16 +49,11 @@ fn push_heading<K: Entry>(out: &mut Vec<u8>) -> Result<(), AllocError>
     Ok(())
 }
 
-fn push_fault(
-    out: &mut Vec<u8>,
-    heap: Global,
-    fault: Option<(Refusal, usize)>,
-) -> Result<(), AllocError>
+fn push_fault(out: &mut Vec<u8>, fault: Option<Fault>) -> Result<(), AllocError>
     ensures { OnOk result (out.new.items ≡ out.old.items ++ fault_of (fault_in fault)) }
 {
-    let Some((refusal, place)) = fault else {
+    let Some(Fault { refusal, place }) = fault else {
         return Ok(());
     };
-    push_note(out, heap, b"refused", usize::from(u8::from(refusal)), place)?;
-    Ok(())
+    push_note(out, b"refused", usize::from(u8::from(refusal)), place)
 }

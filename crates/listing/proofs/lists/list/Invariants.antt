@@ -1,14 +1,14 @@
-use Rattle.std.proofs.Common.{◌≡◌, ◌-◌, ◌≤◌, length, vec_items}
+use Rattle.std.proofs.Common.{◌≡◌, ◌+◌, ◌≤◌, length, vec_items}
+use Rattle.wire.specs.Frames.{Statements}
+use Rattle.wire.specs.Steps.{left, parts_in}
 use Rattle.listing.specs.Rows.{kind_of}
 use Rattle.listing.specs.Lists.{list_of}
-use Rattle.listing.proofs.Going.{behind, rest}
+use Rattle.listing.proofs.Going.{behind, listed}
 use Rattle.listing.proofs.lists.list.Given as goal
 
-abbrev pub invariant-loop-found : goal.invariant-loop-found
-invariant-loop-found g l =
+abbrev pub invariant-loop-step : goal.invariant-loop-step
+invariant-loop-step g l =
     let e = g.K.Entry in
     let k = kind_of e.WIDTH e.valid e.heading e.columns in
-    (l.place ≤ length l.frame) × (l.count ≤ l.place) × (behind (vec_items l.rows) l.count (rest k l.frame l.place) ≡ list_of k l.frame)
-
-abbrev pub decreases-loop-found : goal.decreases-loop-found
-decreases-loop-found g l = length l.frame - l.place
+    let steps = left e.WIDTH l.step-iterator in
+    (l.count + length steps ≤ length l.frame) × Statements e.WIDTH (parts_in steps) × (behind (vec_items l.rows) l.count (listed k steps) ≡ list_of k l.frame)
