@@ -11,18 +11,14 @@ use std::process::ExitCode;
 const USAGE: &str = "usage: frameview reading|order < frame";
 
 fn main(rt: HostRuntime) -> anyhow::Result<ExitCode> {
-    let mut args = env::args(&rt)?;
-    let _program = args.next();
-    let Some(kind) = args.next() else {
-        return usage(&rt);
-    };
-    if args.next().is_some() {
-        return usage(&rt);
-    }
-    match kind.as_str() {
-        "reading" => show::<Reading>(&rt)?,
-        "order" => show::<ShareOrder>(&rt)?,
-        _ => return usage(&rt),
+    let mut args = env::args(&rt)?.skip(1);
+    match (args.next().as_deref(), args.next()) {
+        (Some("reading"), None) => show::<Reading>(&rt)?,
+        (Some("order"), None) => show::<ShareOrder>(&rt)?,
+        _ => {
+            eprintln!(rt; "{USAGE}")?;
+            return Ok(ExitCode::FAILURE);
+        }
     }
     Ok(ExitCode::SUCCESS)
 }
@@ -31,12 +27,7 @@ fn show<K: Entry>(rt: &HostRuntime) -> anyhow::Result<()> {
     let heap = rt.alloc();
     let mut frame = Vec::new(heap);
     rt.stdin().read_to_end(&mut frame)?;
-    let text = record::<K>(heap, frame.as_slice())?;
-    rt.stdout().write_all(text.as_slice())?;
+    let text = record::<K>(heap, &frame)?;
+    rt.stdout().write_all(&text)?;
     Ok(())
-}
-
-fn usage(rt: &HostRuntime) -> anyhow::Result<ExitCode> {
-    eprintln!(rt; "{USAGE}")?;
-    Ok(ExitCode::FAILURE)
 }
