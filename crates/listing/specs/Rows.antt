@@ -1,5 +1,5 @@
 -- A statement as a row of a table.
-use Rattle.std.specs.Prelude.{ℕ, zero, suc, Bool, List, [], ◌∷◌, ◌++◌, map, Some, None, codes, decimal, Option}
+use Rattle.std.specs.Prelude.{◌≡◌, ℕ, zero, suc, Bool, List, [], ◌∷◌, ◌++◌, map, take, length, Some, None, codes, decimal, Option}
 use Rattle.std.specs.List.{slice_get}
 use Rattle.entry.specs.Columns.{breadth_of}
 use Rattle.wire.specs.Letters.{byte_of}
@@ -65,3 +65,7 @@ row_of k p m =
     ++ (following ((byte_of (letter_in m) ∷ []) ∷ says_of (letter_in m) ∷ [])
     ++ (following (map text_of (operands_of m))
     ++ (following (map text_of (padded (breadth_of k.heading) (numbers_of k.columns (item_in m)))) ++ (10 ∷ []))))
+
+-- what stood before still stands in front
+abbrev pub Kept : List ℕ → List ℕ → Type 0
+Kept was now = take (length was) now ≡ was

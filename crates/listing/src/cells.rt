@@ -1,11 +1,12 @@
 ghost use Rattle.std.specs.Prelude.{◌≡◌, ◌∷◌, ◌++◌, map, decimal, OnOk};
-ghost use Rattle.listing.specs.Rows.{text_of, following};
+ghost use Rattle.listing.specs.Rows.{text_of, following, Kept};
 
 use std::alloc::AllocError;
 
 // A number in decimal.
 pub fn push_number(out: &mut Vec<u8>, n: usize) -> Result<(), AllocError>
-    ensures { OnOk result (out.new.items ≡ out.old.items ++ decimal n) }
+    ensures value { OnOk result (out.new.items ≡ out.old.items ++ decimal n) }
+    ensures kept { Kept out.old.items out.new.items }
 {
     let text = format!(in *out.allocator(); "{n}")?;
     out.extend_from_slice(text.as_bytes())
@@ -13,7 +14,8 @@ pub fn push_number(out: &mut Vec<u8>, n: usize) -> Result<(), AllocError>
 
 // A word behind a semicolon.
 pub fn push_word(out: &mut Vec<u8>, word: &[u8]) -> Result<(), AllocError>
-    ensures { OnOk result (out.new.items ≡ out.old.items ++ (59 ∷ word.now)) }
+    ensures value { OnOk result (out.new.items ≡ out.old.items ++ (59 ∷ word.now)) }
+    ensures kept { Kept out.old.items out.new.items }
 {
     out.push(b';')?;
     out.extend_from_slice(word)
@@ -21,7 +23,8 @@ pub fn push_word(out: &mut Vec<u8>, word: &[u8]) -> Result<(), AllocError>
 
 // One cell behind a semicolon: a number, or nothing.
 pub fn push_cell(out: &mut Vec<u8>, cell: Option<usize>) -> Result<(), AllocError>
-    ensures { OnOk result (out.new.items ≡ out.old.items ++ (59 ∷ text_of cell)) }
+    ensures value { OnOk result (out.new.items ≡ out.old.items ++ (59 ∷ text_of cell)) }
+    ensures kept { Kept out.old.items out.new.items }
 {
     out.push(b';')?;
     match cell {
@@ -32,7 +35,8 @@ pub fn push_cell(out: &mut Vec<u8>, cell: Option<usize>) -> Result<(), AllocErro
 
 // Cells, each behind a semicolon.
 pub fn push_cells(out: &mut Vec<u8>, cells: &[Option<usize>]) -> Result<(), AllocError>
-    ensures { OnOk result (out.new.items ≡ out.old.items ++ following (map text_of cells.now)) }
+    ensures value { OnOk result (out.new.items ≡ out.old.items ++ following (map text_of cells.now)) }
+    ensures kept { Kept out.old.items out.new.items }
 {
     for cell in cells {
         push_cell(out, *cell)?;
