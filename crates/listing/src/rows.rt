@@ -15,7 +15,7 @@ use std::alloc::AllocError;
 use wire::{Fault, Letter, Part, Statement, parse};
 
 // What a letter says, in a word.
-pub fn says<'a>(letter: Letter) -> &'a [u8]
+pub fn says(letter: Letter) -> &'static [u8]
     ensures { result.now ≡ says_of letter }
 {
     match letter {
