@@ -1,12 +1,12 @@
 -- One slot's row of cells.
-use Rattle.std.proofs.Common.{◌≡◌, ℕ, zero, suc, ◌+◌, ◌*◌, ◌<◌, ◌≤◌, leb, List, [], ◌∷◌, ◌++◌, map, length, get_or, take, drop, set, replicate, Some, None, Option, sym, refl, ap, ◌∙◌, le_refl, add-one, arith}
+use Rattle.std.proofs.Common.{◌≡◌, ℕ, zero, suc, ◌+◌, ◌*◌, ◌<◌, ◌≤◌, leb, List, ◌∷◌, ◌++◌, map, length, get_or, take, drop, replicate, Some, None, Option, sym, refl, ap, ◌∙◌, arith}
 use mathlib.Core.List.{map-append}
 use Rattle.std.specs.Option.{option_map}
 use Rattle.std.proofs.lemmas.Bool.{le-leb, lt-leb}
 use Rattle.std.proofs.lemmas.List.{get_or-map, take-map, drop-map}
-use Rattle.std.proofs.lemmas.Nat.{mul-add-lt, mul-le}
+use Rattle.std.proofs.lemmas.Nat.{mul-add-lt}
 use Rattle.theory.specs.Search.{bind, guard}
-use Rattle.cells.specs.Rows.{Cells, row_of, place_of, part, emptied, standing}
+use Rattle.cells.specs.Rows.{Cells, place_of, part, emptied, standing}
 
 -- a cell that was read, seen by its bytes
 pub cell : {K L : Type 0} (f : K → L) (cells : List (Option K)) (i : ℕ) (o : Option K) → i < length cells → o ≡ get_or cells i o → get_or (map (option_map f) cells) i None ≡ option_map f o
@@ -32,9 +32,6 @@ module _ (k : ℕ) (row : Cells) (i : ℕ) where
 pub place_within : (n w q s j : ℕ) → q < n → s < w → j < n → place_of n w q s j < n * w * n
 place_within n w q s j a b c = omega (arith, mul-add-lt (q * w + s) n j (w * n) (mul-add-lt q w s n a b) c)
 
-pub row_within : (n w q s : ℕ) → q < n → s < w → row_of n w q s + n ≤ n * w * n
-row_within n w q s a b = omega (arith, mul-le (q * w + s + 1) n (w * n) n (omega (arith, mul-add-lt q w s n a b)) (le_refl n))
-
 pub map_part : {A B : Type 0} (f : A → B) (xs : List A) (i n : ℕ) → map f (part i n xs) ≡ part i n (map f xs)
 map_part f xs i n = sym (take-map f n (drop i xs)) ∙ ap (take n) (sym (drop-map f i xs))
 
@@ -44,12 +41,3 @@ map_none f (suc n) = ap (λ cells. None ∷ cells) (map_none f n)
 
 pub map_emptied : {A B : Type 0} (f : A → B) (n : ℕ) (cells : List (Option A)) → map (option_map f) (emptied n cells) ≡ emptied n (map (option_map f) cells)
 map_emptied f n cells = map-append (option_map f) (replicate n None) (drop n cells) ∙ (λ i. map_none f n i ++ sym (drop-map (option_map f) n cells) i)
-
-emptied_suc : {A : Type 0} (i : ℕ) (cells : List (Option A)) → i < length cells → set (emptied i cells) i None ≡ emptied (suc i) cells
-emptied_suc i [] h = absurd (omega arith)
-emptied_suc zero (o ∷ cells) h = refl
-emptied_suc (suc i) (o ∷ cells) h = ap (λ rest. None ∷ rest) (emptied_suc i cells (omega arith))
-
--- one more cell is emptied
-pub emptied_more : {A : Type 0} (i : ℕ) (cells : List (Option A)) → i < length cells → set (emptied i cells) i None ≡ emptied (i + 1) cells
-emptied_more i cells h = rw (add-one i) (emptied_suc i cells h)

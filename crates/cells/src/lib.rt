@@ -3,12 +3,11 @@
 // Which rule wants how many, what is refused, and the votes are not here.
 #![tactic(auto)]
 
-mod places;
+mod grid;
 mod rows;
 mod slices;
 mod witness;
-mod witnesses;
 
-pub use places::{place, row, row_cells, slot_place, slots};
+pub use grid::Grid;
 pub use slices::empty;
 pub use witness::Witness;

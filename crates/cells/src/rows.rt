@@ -9,10 +9,7 @@ use entry::Entry;
 pub fn holds<K: Entry>(cell: &Option<K>, x: &K) -> bool
     ensures { result ≡ holds (K.bytes x.now) (option_map K.bytes cell.now) }
 {
-    match cell {
-        Some(y) => y == x,
-        None => false,
-    }
+    cell.is_some_and(|y| y == *x)
 }
 
 // How many senders hold the entry.

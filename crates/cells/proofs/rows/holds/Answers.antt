@@ -1,11 +1,12 @@
-use Rattle.std.proofs.Common.{sym, ap, ◌∙◌}
-use Rattle.std.specs.Option.{option_map}
+use Rattle.std.proofs.Common.{◌≡◌, ℕ, Bool, false, List, Some, None, Option, Decides, ◌∙◌, rules}
+use Rattle.std.specs.Option.{option_map, MatchOption}
 use Rattle.cells.specs.Rows.{holds}
 use Rattle.cells.proofs.Alike.{told}
 use Rattle.cells.proofs.rows.holds.Goals as goal
 
-pub returns-in-Some : goal.returns-in-Some
-returns-in-Some g c =
-    let b = g.K.Entry.bytes in
-    c.eq.ensures ∙ told _ _ _ (g.met.K.Entry.same c.in-Some.y c.args.x.now)
-    ∙ ap (λ o. holds (b c.args.x.now) (option_map b o)) (sym c.in-Some.is)
+held : {K : Type 0} (b : K → List ℕ) (eq : K → K → Bool) → ((x y : K) → Decides (eq x y) (b x ≡ b y)) → (x : K) (r : Bool) (o : Option K) → MatchOption o (r ≡ false) (λ y. r ≡ eq y x) → r ≡ holds (b x) (option_map b o)
+held b eq same x r None h = h
+held b eq same x r (Some y) h = h ∙ told (eq y x) (b y) (b x) (same y x)
+
+pub returns : goal.returns
+returns g c = held g.K.Entry.bytes _ g.met.K.Entry.same c.args.x.now c.is_some_and.result c.args.cell.now (search rules)
