@@ -40,7 +40,7 @@ impl<'a, T: Copy> Witness<'a, T> {
     pub fn as_slice(&self) -> &[Option<T>]
         ensures { result.now ≡ self.now }
     {
-        self.cells
+        &*self.cells
     }
 
     // What is held at a place, or nothing past the end.

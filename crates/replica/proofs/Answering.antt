@@ -1,11 +1,14 @@
 -- What make and page answer, case by case.
-use Rattle.std.proofs.Common.{◌≡◌, ℕ, ◌<◌, ◌≤◌, true, false, List, get_or, None, Ok, Err, Option, refl}
+use Rattle.std.proofs.Common.{◌≡◌, ℕ, ◌<◌, ◌≤◌, true, false, List, get_or, None, Ok, Err, Some, Option, Result, refl, ap}
 use Rattle.std.proofs.lemmas.Bool.{le-leb, lt-leb}
-use Rattle.common.specs.Refusals.{declined}
+use Rattle.std.specs.Option.{option_map, ok_or}
+use Rattle.common.specs.Refusals.{answered, declined}
+use Rattle.common.specs.declared.refusal.Refusal.{Refusal}
 use Rattle.common.specs.declared.refusal.Refusal.TheVariants as refusal
 use Rattle.theory.specs.Book.{Page}
 use Rattle.replica.specs.declared.state.Replica.{Replica}
-use Rattle.replica.specs.Store.{Store, fits, cleared}
+use Rattle.replica.specs.declared.lent.Page as declared
+use Rattle.replica.specs.Store.{Store, fits, cleared, paged}
 use Rattle.replica.specs.Making.{Numbers, set_for, fresh, make_of}
 use Rattle.replica.specs.Paging.{found, page_of}
 
@@ -34,3 +37,8 @@ module _ (m : Replica) (t : Store) (place : ℕ) where
   pub page_found : true ≡ fits m.set.n m.set.w t → place < m.pages → (o : Option (Page (List ℕ))) → o ≡ get_or t.pages place None → found o ≡ page_of m t place
   unfolding page_of
   page_found h l o e = rw (← h, lt-leb _ _ l, ← e) refl
+
+-- a page or the refusal, with the page seen by its bytes
+pub answered_found : {K : Type 0} (b : K → List ℕ) (o : Option (declared.Page K)) (r : Result (declared.Page K) Refusal) → r ≡ ok_or o refusal.Page → answered (paged b) r ≡ found (option_map (paged b) o)
+answered_found b None r e = ap (answered (paged b)) e
+answered_found b (Some p) r e = ap (answered (paged b)) e

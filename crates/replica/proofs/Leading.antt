@@ -1,31 +1,19 @@
 -- The book: the pages up to the first empty cell.
 use Rattle.std.proofs.lemmas.Bool.Decides.{same_from_decides}
-use Rattle.std.proofs.Common.{◌≡◌, ℕ, zero, suc, ◌+◌, ◌<◌, ◌≤◌, Bool, true, false, ◌||◌, ◌⊎◌, List, [], ◌∷◌, length, get_or, take, drop, Some, None, Decides, Option, sym, refl, ap, ◌∙◌, inl, inr, add-one, arith}
+use Rattle.std.proofs.Common.{◌≡◌, ℕ, zero, suc, ◌+◌, ◌<◌, ◌≤◌, Bool, true, false, ◌||◌, ◌⊎◌, List, [], ◌∷◌, map, length, get_or, take, drop, Some, None, Decides, Option, sym, refl, ap, ◌∙◌, inl, inr, arith}
 use Rattle.std.specs.List.{slice_get}
 use Rattle.std.proofs.lemmas.Bool.{cases_lt}
-use Rattle.std.proofs.lemmas.List.{get_or-take, get_or_past, length-take, drop_all}
+use Rattle.std.specs.Option.{option_map}
+use Rattle.std.proofs.lemmas.List.{get_or-take, get_or_past, length-take, drop_all, drop_more, take-map}
+use Rattle.replica.specs.declared.lent.Page as declared
+use Rattle.replica.specs.declared.lent.Tables.{Tables}
 use Rattle.theory.specs.Statement.{decided}
-use Rattle.theory.specs.Book.{Page, stands_in_book}
+use Rattle.theory.specs.Book.{stands_in_book}
 use Rattle.replica.specs.declared.state.Replica.{Replica}
-use Rattle.replica.specs.Store.{Store, fits}
+use Rattle.replica.specs.Store.{Store, fits, paged, store}
 use Rattle.replica.specs.View.{same_bytes, leading, book_of}
 use Rattle.replica.specs.Paging.{found, page_of, Reads}
 use Rattle.replica.proofs.Answering.{page_found, page_past}
-
--- from place i on, by what stands there
-pub lead_none : {A : Type 0} (ps : List (Option A)) (i : ℕ) → get_or ps i None ≡ None → leading (drop i ps) ≡ []
-lead_none [] zero e = refl
-lead_none [] (suc i) e = refl
-lead_none (None ∷ ps) zero e = refl
-lead_none (Some p ∷ ps) zero e = absurd (let z : ◌≡◌ {A = ℕ} 0 1 = cc in omega arith)
-lead_none (p ∷ ps) (suc i) e = lead_none ps i e
-
-pub lead_some : {A : Type 0} (ps : List (Option A)) (i : ℕ) (p : A) → get_or ps i None ≡ Some p → leading (drop i ps) ≡ p ∷ leading (drop (i + 1) ps)
-lead_some [] zero p e = absurd (let z : ◌≡◌ {A = ℕ} 0 1 = cc in omega arith)
-lead_some [] (suc i) p e = absurd (let z : ◌≡◌ {A = ℕ} 0 1 = cc in omega arith)
-lead_some (None ∷ ps) zero p e = absurd (let z : ◌≡◌ {A = ℕ} 0 1 = cc in omega arith)
-lead_some (Some q ∷ ps) zero p e = let s : q ≡ p = cc in ap (λ x. x ∷ leading ps) s
-lead_some (q ∷ ps) (suc i) p e = rw (add-one (suc i)) (rw (add-one i) at (lead_some ps i p e))
 
 -- what stands at a place of the book stands in that cell
 lead_nth : {A : Type 0} (ps : List (Option A)) (k : ℕ) (p : A) → slice_get (leading ps) k ≡ Some p → get_or ps k None ≡ Some p
@@ -47,19 +35,26 @@ decided_decides (no n) = ((λ e. absurd (let z : ◌≡◌ {A = Bool} true false
 told_same : (r : Bool) (a b : List ℕ) → Decides r (a ≡ b) → same_bytes a b ≡ r
 told_same r a b d = same_from_decides (same_bytes a b) r (decided_decides _) d
 
--- whether an entry is on the pages from a place on
-module _ (ps : List (Option (Page (List ℕ)))) (count i : ℕ) (x : List ℕ) where
+-- whether an entry is on the pages from cell i on
+module _ {K : Type 0} (b : K → List ℕ) (cells : List (Option (declared.Page K))) (x : List ℕ) where
   abbrev pub left : ℕ → Bool
-  left k = stands_in_book same_bytes (leading (drop k (take count ps))) x
+  left i = stands_in_book same_bytes (leading (map (option_map (paged b)) (drop i cells))) x
 
-  pub booked_none : i < count → get_or ps i None ≡ None → left i ≡ false
-  booked_none l e = ap (λ b. stands_in_book same_bytes b x) (lead_none (take count ps) i (get_or-take count ps i None l ∙ e))
+  left_at : (i : ℕ) (cell o : Option (declared.Page K)) → i < length cells → cell ≡ get_or cells i cell → cell ≡ o → left i ≡ stands_in_book same_bytes (leading (option_map (paged b) o ∷ map (option_map (paged b)) (drop (i + 1) cells))) x
+  left_at i cell o h e is = ap (λ l. stands_in_book same_bytes (leading (map (option_map (paged b)) l)) x) (drop_more cells i cell h ∙ ap (λ y. y ∷ drop (i + 1) cells) (sym e ∙ is))
 
-  pub booked_some : (p : Page (List ℕ)) (r : Bool) → i < count → get_or ps i None ≡ Some p → Decides r (p.entry ≡ x) → left i ≡ (r || left (i + 1))
-  booked_some p r l e h = ap (λ b. stands_in_book same_bytes b x) (lead_some (take count ps) i p (get_or-take count ps i None l ∙ e)) ∙ ap (λ b. b || left (i + 1)) (told_same r p.entry x h)
+  pub left_none : (i : ℕ) (cell : Option (declared.Page K)) → i < length cells → cell ≡ get_or cells i cell → cell ≡ None → left i ≡ false
+  left_none i cell h e is = left_at i cell None h e is
 
-  pub booked_end : count ≤ i → left i ≡ false
-  booked_end l = ap (λ b. stands_in_book same_bytes (leading b) x) (drop_all i (take count ps) (omega (arith, length-take count ps)))
+  pub left_some : (i : ℕ) (cell : Option (declared.Page K)) (p : declared.Page K) (r : Bool) → i < length cells → cell ≡ get_or cells i cell → cell ≡ Some p → Decides r (b p.item ≡ x) → left i ≡ (r || left (i + 1))
+  left_some i cell p r h e is t = left_at i cell (Some p) h e is ∙ ap (λ q. q || left (i + 1)) (told_same r (b p.item) x t)
+
+  pub left_end : (i : ℕ) → length cells ≤ i → left i ≡ false
+  left_end i h = ap (λ l. stands_in_book same_bytes (leading (map (option_map (paged b)) l)) x) (drop_all i cells h)
+
+-- the book, in the cells that the replica counts
+pub book_is : {K : Type 0} (b : K → List ℕ) (m : Replica) (t : Tables K) (cells : List (Option (declared.Page K))) → cells ≡ take m.pages t.pages → leading (map (option_map (paged b)) cells) ≡ book_of m (store b t)
+book_is b m t cells e = ap (λ l. leading (map (option_map (paged b)) l)) e ∙ ap leading (sym (take-map (option_map (paged b)) m.pages t.pages))
 
 module _ (m : Replica) (t : Store) where
   leaf_at : fits m.set.n m.set.w t ≡ true → (k : ℕ) → found (get_or (take m.pages t.pages) k None) ≡ page_of m t k

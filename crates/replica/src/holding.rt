@@ -12,7 +12,6 @@ use crate::claim::Claim;
 use crate::lent::Tables;
 use crate::settling::{settle_bit, settle_entry, settle_set, taken};
 use crate::state::Replica;
-use cells::{place, slot_place};
 use common::Refusal;
 use entry::Entry;
 
@@ -29,23 +28,22 @@ impl Replica {
         requires ranged { ranged (plan self.now) (box self.now (store K.bytes tables.now)) (claim_of K.bytes claim) ≡ true }
         ensures { numbered result ≡ vacant_of self.now (store K.bytes tables.now) sender (claim_of K.bytes claim) }
     {
-        let n = self.set.n;
-        let w = self.set.w;
+        let grid = self.set.grid();
         match claim {
             Claim::Send { slot, item } => settle_entry(
-                tables.sends.get(slot_place(sender, slot, n, w)),
+                tables.sends.get(grid.slot_place(sender, slot)),
                 item,
             ),
             Claim::Echo { queue, slot, item } => settle_entry(
-                tables.echoes.get(place(queue, slot, sender, n, w)),
+                tables.echoes.get(grid.place(queue, slot, sender)),
                 item,
             ),
             Claim::Ready { queue, slot, item } => settle_entry(
-                tables.readies.get(place(queue, slot, sender, n, w)),
+                tables.readies.get(grid.place(queue, slot, sender)),
                 item,
             ),
             Claim::Have { queue, slot, item } => settle_entry(
-                tables.haves.get(place(queue, slot, sender, n, w)),
+                tables.haves.get(grid.place(queue, slot, sender)),
                 item,
             ),
             Claim::Value { round, bit, .. } => {
@@ -83,19 +81,18 @@ impl Replica {
         requires ranged { ranged (plan self.old) (box self.old (store K.bytes tables.old)) (claim_of K.bytes claim) ≡ true }
         ensures { (self.new, store K.bytes tables.new) ≡ held_of self.old (store K.bytes tables.old) sender (claim_of K.bytes claim) }
     {
-        let n = self.set.n;
-        let w = self.set.w;
+        let grid = self.set.grid();
         match claim {
-            Claim::Send { slot, item } => tables.sends.hold(slot_place(sender, slot, n, w), item),
+            Claim::Send { slot, item } => tables.sends.hold(grid.slot_place(sender, slot), item),
             Claim::Echo { queue, slot, item } => tables
                 .echoes
-                .hold(place(queue, slot, sender, n, w), item),
+                .hold(grid.place(queue, slot, sender), item),
             Claim::Ready { queue, slot, item } => tables
                 .readies
-                .hold(place(queue, slot, sender, n, w), item),
+                .hold(grid.place(queue, slot, sender), item),
             Claim::Have { queue, slot, item } => tables
                 .haves
-                .hold(place(queue, slot, sender, n, w), item),
+                .hold(grid.place(queue, slot, sender), item),
             Claim::Value { round, bit, .. } => {
                 let k = round as usize;
                 self.votes.values[k] = self.votes.values[k].mark(bit, sender);

@@ -1,9 +1,8 @@
 ghost use Rattle.std.specs.Prelude.{◌≡◌, true};
 ghost use Rattle.replica.specs.Store.{store, fits, cleared};
 
-use crate::book::{room, wipe};
 use crate::lent::{Page, Tables};
-use cells::{Witness, row_cells, slots};
+use cells::{Grid, Witness};
 use entry::Entry;
 
 impl<'a, K: Entry> Tables<'a, K> {
@@ -15,51 +14,47 @@ impl<'a, K: Entry> Tables<'a, K> {
         haves: &'a mut [Option<K>],
         pages: &'a mut [Option<Page<K>>],
     ) -> Tables<'a, K>
-        ensures sends { result.sends.cells.now ≡ sends.old }
-        ensures echoes { result.echoes.cells.now ≡ echoes.old }
-        ensures readies { result.readies.cells.now ≡ readies.old }
-        ensures haves { result.haves.cells.now ≡ haves.old }
-        ensures pages { result.pages.now ≡ pages.old }
+        ensures sends { result.sends ≡ sends.old }
+        ensures echoes { result.echoes ≡ echoes.old }
+        ensures readies { result.readies ≡ readies.old }
+        ensures haves { result.haves ≡ haves.old }
+        ensures pages { result.pages ≡ pages.old }
     {
-        let sends = Witness { cells: sends };
-        let echoes = Witness { cells: echoes };
-        let readies = Witness { cells: readies };
-        let haves = Witness { cells: haves };
         Tables {
-            sends,
-            echoes,
-            readies,
-            haves,
-            pages,
+            sends: Witness::over(sends),
+            echoes: Witness::over(echoes),
+            readies: Witness::over(readies),
+            haves: Witness::over(haves),
+            pages: Witness::over(pages),
         }
     }
 }
 
 impl<K: Entry> Tables<'_, K> {
-    // Whether each table is long enough for `n` replicas with `w` slots each.
-    pub fn fit(&self, n: u8, w: u8) -> bool
-        ensures { result ≡ fits n w (store K.bytes self.now) }
+    // Whether each table is long enough for a set of replicas.
+    pub fn fit(&self, grid: Grid) -> bool
+        ensures { result ≡ fits grid.n grid.w (store K.bytes self.now) }
     {
-        let slots = slots(n, w);
-        let rows = row_cells(n, w);
+        let slots = grid.slots();
+        let rows = grid.row_cells();
         self.sends.len() >= slots
             && self.echoes.len() >= rows
             && self.readies.len() >= rows
             && self.haves.len() >= rows
-            && room(self.pages) >= slots
+            && self.pages.len() >= slots
     }
 
-    // Empties what a set of `n` replicas with `w` slots each needs.
-    pub(crate) fn clear(&mut self, n: u8, w: u8)
-        requires { fits n w (store K.bytes self.old) ≡ true }
-        ensures { store K.bytes self.new ≡ cleared n w (store K.bytes self.old) }
+    // Empties what a set of replicas needs.
+    pub(crate) fn clear(&mut self, grid: Grid)
+        requires { fits grid.n grid.w (store K.bytes self.old) ≡ true }
+        ensures { store K.bytes self.new ≡ cleared grid.n grid.w (store K.bytes self.old) }
     {
-        let slots = slots(n, w);
-        let rows = row_cells(n, w);
+        let slots = grid.slots();
+        let rows = grid.row_cells();
         self.sends.clear(slots);
         self.echoes.clear(rows);
         self.readies.clear(rows);
         self.haves.clear(rows);
-        wipe(self.pages, slots);
+        self.pages.clear(slots);
     }
 }

@@ -19,5 +19,5 @@ pub struct Tables<'a, K> {
     pub readies: Witness<'a, K>,
     pub haves: Witness<'a, K>,
     // The book, from its first page on.
-    pub pages: &'a mut [Option<Page<K>>],
+    pub pages: Witness<'a, Page<K>>,
 }

@@ -6,6 +6,7 @@ ghost use Rattle.replica.specs.Making.{plain, make_of, Begins};
 use crate::lent::Tables;
 use crate::set::Set;
 use crate::state::Replica;
+use cells::Grid;
 use common::Refusal;
 use entry::Entry;
 
@@ -22,10 +23,11 @@ impl Replica {
         ensures begins { IfOk result (λ m. Begins me m (store K.bytes tables.new)) }
     {
         let set = Set::new(n, me, w)?;
-        if !tables.fit(n, w) {
+        let grid = Grid { n, w };
+        if !tables.fit(grid) {
             return Err(Refusal::Table);
         }
-        tables.clear(n, w);
+        tables.clear(grid);
         Ok(Replica::fresh(set))
     }
 }

@@ -1,4 +1,4 @@
-ghost use Rattle.std.specs.Prelude.{◌≡◌};
+ghost use Rattle.std.specs.Prelude.{◌≡◌, take};
 ghost use Rattle.common.specs.Refusals.{answered};
 ghost use Rattle.theory.specs.Plan.{sameness};
 ghost use Rattle.theory.specs.Book.{stands_in_book};
@@ -6,7 +6,7 @@ ghost use Rattle.replica.specs.Store.{store, paged};
 ghost use Rattle.replica.specs.View.{plan, book_of};
 ghost use Rattle.replica.specs.Paging.{page_of, Reads};
 
-use crate::book::{held, in_book};
+use crate::book::in_book;
 use crate::lent::{Page, Tables};
 use crate::state::Replica;
 use common::Refusal;
@@ -24,22 +24,27 @@ impl Replica {
     fn leaf<K: Entry>(&self, tables: &Tables<'_, K>, place: usize) -> Result<Page<K>, Refusal>
         ensures { answered (paged K.bytes) result ≡ page_of self.now (store K.bytes tables.now) place }
     {
-        if !tables.fit(self.set.n, self.set.w) {
+        if !tables.fit(self.set.grid()) {
             return Err(Refusal::Table);
         }
-        if place >= self.pages as usize {
+        if place >= usize::from(self.pages) {
             return Err(Refusal::Page);
         }
-        let Some(page) = held(tables.pages, place) else {
-            return Err(Refusal::Page);
-        };
-        Ok(page)
+        tables.pages.get(place).ok_or(Refusal::Page)
+    }
+
+    // The cells of the book: as many as the replica counts.
+    pub fn book_cells<'t, K: Entry>(&self, tables: &'t Tables<'_, K>) -> &'t [Option<Page<K>>]
+        ensures { result.now ≡ take self.now.pages tables.now.pages }
+    {
+        let cells = tables.pages.as_slice();
+        &cells[..cells.len().min(usize::from(self.pages))]
     }
 
     // Whether the entry is in the book.
     pub fn booked<K: Entry>(&self, tables: &Tables<'_, K>, x: &K) -> bool
         ensures { result ≡ stands_in_book (sameness (plan self.now)) (book_of self.now (store K.bytes tables.now)) (K.bytes x.now) }
     {
-        in_book(tables.pages, self.pages as usize, x)
+        in_book(self.book_cells(tables), x)
     }
 }

@@ -3,6 +3,7 @@ ghost use Rattle.common.specs.Refusals.{answered};
 ghost use Rattle.replica.specs.Making.{numbers, set_for};
 
 use crate::set::Set;
+use cells::Grid;
 use common::{MAX_SLOTS, Refusal, quorum};
 
 impl Set {
@@ -18,5 +19,15 @@ impl Set {
             return Err(Refusal::Slots);
         }
         Ok(Set { n, w, f, q, me })
+    }
+
+    // What the places of its cells go by.
+    pub fn grid(self) -> Grid
+        ensures { result ≡ record { n = self.n; w = self.w } }
+    {
+        Grid {
+            n: self.n,
+            w: self.w,
+        }
     }
 }
