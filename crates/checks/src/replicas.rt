@@ -31,11 +31,11 @@ fn filled_from<T: Copy>(rt: &impl Abort, cells: &[Option<T>], from: usize) {
 }
 
 fn left(rt: &impl Abort, tables: &Tables<'_, Reading>, slots: usize, rows: usize) {
-    filled_from(rt, tables.sends.cells, slots);
-    filled_from(rt, tables.echoes.cells, rows);
-    filled_from(rt, tables.readies.cells, rows);
-    filled_from(rt, tables.haves.cells, rows);
-    filled_from(rt, tables.pages, slots);
+    filled_from(rt, tables.sends.as_slice(), slots);
+    filled_from(rt, tables.echoes.as_slice(), rows);
+    filled_from(rt, tables.readies.as_slice(), rows);
+    filled_from(rt, tables.haves.as_slice(), rows);
+    filled_from(rt, tables.pages.as_slice(), slots);
 }
 
 // What make answers with tables of these lengths, as a number, and which cells it leaves filled of such as

@@ -4,7 +4,6 @@ ghost use Rattle.replica.specs.Store.{store, fits};
 ghost use Rattle.replica.specs.Claims.{claim_of};
 ghost use Rattle.intake.specs.Submitting.{unused_of, offer_of, submit_of, Submits};
 
-use cells::slot_place;
 use common::Refusal;
 use entry::Entry;
 use replica::{Claim, Replica, Tables};
@@ -15,12 +14,9 @@ fn unused<K: Entry>(replica: &Replica, tables: &Tables<'_, K>) -> Option<u8>
     ensures { result ≡ unused_of replica.now (store K.bytes tables.now) }
 {
     let set = replica.set;
+    let grid = set.grid();
     for slot in 0..set.w {
-        if tables
-            .sends
-            .get(slot_place(set.me, slot, set.n, set.w))
-            .is_none()
-        {
+        if tables.sends.get(grid.slot_place(set.me, slot)).is_none() {
             return Some(slot);
         }
     }
@@ -31,7 +27,7 @@ fn unused<K: Entry>(replica: &Replica, tables: &Tables<'_, K>) -> Option<u8>
 fn offer<K: Entry>(replica: &Replica, tables: &Tables<'_, K>, s: &[u8]) -> Result<Claim<K>, Refusal>
     ensures { answered (claim_of K.bytes) result ≡ offer_of K.WIDTH K.valid replica.now (store K.bytes tables.now) s.now }
 {
-    if !tables.fit(replica.set.n, replica.set.w) {
+    if !tables.fit(replica.set.grid()) {
         return Err(Refusal::Table);
     }
     if s.len() < K::WIDTH {

@@ -46,8 +46,8 @@ module _ (heading : List ℕ) (columns : List ℕ → List ℕ) (n : ℕ) (book 
 -- the book is what the counted cells lead with
 pub book_is :
     {K : Type 0} (bytes : K → List ℕ) (m : Replica) (t : Tables K) (cells : List (Option (declared.Page K)))
-    → cells ≡ take m.pages t.pages.now → leading (map (option_map (paged bytes)) cells) ≡ book_of m (store bytes t)
-book_is bytes m t cells e = ap (λ l. leading (map (option_map (paged bytes)) l)) e ∙ ap leading (sym (take-map (option_map (paged bytes)) m.pages t.pages.now))
+    → cells ≡ take m.pages t.pages → leading (map (option_map (paged bytes)) cells) ≡ book_of m (store bytes t)
+book_is bytes m t cells e = ap (λ l. leading (map (option_map (paged bytes)) l)) e ∙ ap leading (sym (take-map (option_map (paged bytes)) m.pages t.pages))
 
 module _ (heading : List ℕ) (columns : List ℕ → List ℕ) (m : Replica) (t : Store) (out : List ℕ) where
   pub print_short : false ≡ fits m.set.n m.set.w t → (declined refusal.Table, out) ≡ print_of heading columns m t out

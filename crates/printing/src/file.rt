@@ -29,10 +29,10 @@ pub fn print<K: Entry>(
     ensures grid { IfOk result (λ len. grid_in (take len out.new) ≡ grid_of K.heading K.columns replica.now.set.n (book_of replica.now (store K.bytes tables.now))) }
 {
     let set = replica.set;
-    if !tables.fit(set.n, set.w) {
+    if !tables.fit(set.grid()) {
         return Err(Refusal::Table);
     }
-    let pages = counted(tables.pages, replica.pages);
+    let pages = counted(tables.pages.as_slice(), replica.pages);
     if out.len() < file_len(set.n, pages) {
         return Err(Refusal::File);
     }

@@ -38,7 +38,7 @@ impl Replica {
         ensures { result.now ≡ take self.now.pages tables.now.pages }
     {
         let cells = tables.pages.as_slice();
-        &cells[..cells.len().min(usize::from(self.pages))]
+        cells.get(..usize::from(self.pages)).unwrap_or(cells)
     }
 
     // Whether the entry is in the book.

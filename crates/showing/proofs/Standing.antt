@@ -216,8 +216,8 @@ place_fits w m t i s wide e = let p = placed_in (view m t m.set.me) (order m) i 
 -- a store of entries of one kind
 pub store_wide : {K : Type 0} (bytes : K → List ℕ) (w : ℕ) (tables : Tables K) → ((k : K) → length (bytes k) ≡ w) → Wide w (store bytes tables)
 store_wide bytes w t wide = record {
-  sends = entries_wide bytes w wide t.sends.cells.now;
-  echoes = entries_wide bytes w wide t.echoes.cells.now;
-  readies = entries_wide bytes w wide t.readies.cells.now;
-  haves = entries_wide bytes w wide t.haves.cells.now;
+  sends = entries_wide bytes w wide t.sends;
+  echoes = entries_wide bytes w wide t.echoes;
+  readies = entries_wide bytes w wide t.readies;
+  haves = entries_wide bytes w wide t.haves;
 }

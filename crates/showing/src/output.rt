@@ -57,7 +57,7 @@ pub fn show<K: Entry>(
     ensures value { (answered pair_of result, out.new) ≡ show_of replica.now (store K.bytes tables.now) number out.old }
     ensures law { Shows K.WIDTH replica.now (store K.bytes tables.now) }
 {
-    if !tables.fit(replica.set.n, replica.set.w) {
+    if !tables.fit(replica.set.grid()) {
         return Err(Refusal::Table);
     }
     let Some(from) = skip(replica, tables, number) else {

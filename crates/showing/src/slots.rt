@@ -9,7 +9,7 @@ ghost use Rattle.replica.specs.View.{box};
 ghost use Rattle.showing.specs.Boards.{by_slot, stated, own_row};
 
 use crate::held::Held;
-use cells::{Witness, slot_place};
+use cells::Witness;
 use entry::Entry;
 use replica::{Claim, Replica, Set, Tables};
 
@@ -20,8 +20,7 @@ pub fn send_at<K: Entry>(replica: &Replica, tables: &Tables<'_, K>, slot: u8) ->
     ensures { option_map (claim_of K.bytes) result ≡ own (box replica.now (store K.bytes tables.now)) (at_send slot) }
 {
     let set = &replica.set;
-    let at = slot_place(set.me, slot, set.n, set.w);
-    match tables.sends.get(at) {
+    match tables.sends.get(set.grid().slot_place(set.me, slot)) {
         Some(item) => Some(Claim::Send { slot, item }),
         None => None,
     }
@@ -30,10 +29,9 @@ pub fn send_at<K: Entry>(replica: &Replica, tables: &Tables<'_, K>, slot: u8) ->
 // The replica's own entry in a table with a row for each slot, at the slot `j` of all queues.
 fn own_entry<K: Entry>(table: &Witness<'_, K>, set: &Set, j: usize) -> Option<Held<K>>
     requires low { j < set.now.n * set.now.w }
-    requires long { set.now.n * set.now.w * set.now.n ≤ length (map (option_map K.bytes) table.now.cells.now) }
-    ensures echo { option_map (stated K.bytes echo) result ≡ own_row set.now (map (option_map K.bytes) table.now.cells.now) echo j }
-    ensures ready { option_map (stated K.bytes ready) result ≡ own_row set.now (map (option_map K.bytes) table.now.cells.now) ready j }
-    ensures have { option_map (stated K.bytes have) result ≡ own_row set.now (map (option_map K.bytes) table.now.cells.now) have j }
+    ensures echo { option_map (stated K.bytes echo) result ≡ own_row set.now (map (option_map K.bytes) table.now) echo j }
+    ensures ready { option_map (stated K.bytes ready) result ≡ own_row set.now (map (option_map K.bytes) table.now) ready j }
+    ensures have { option_map (stated K.bytes have) result ≡ own_row set.now (map (option_map K.bytes) table.now) have j }
 {
     let w = set.w as usize;
     match table.get(j * set.n as usize + set.me as usize) {

@@ -1,4 +1,4 @@
-use Rattle.std.proofs.Common.{map, arith}
+use Rattle.std.proofs.Common.{map, take, ap, ◌∙◌, arith}
 use Rattle.std.specs.Option.{option_map}
 use Rattle.replica.specs.Store.{store, paged}
 use Rattle.replica.specs.View.{leading}
@@ -9,7 +9,7 @@ pub returns-then-not-fit : goal.returns-then-not-fit
 returns-then-not-fit g c =
     let e = g.K.Entry in
     record {
-      value = print_short e.heading e.columns c.args.replica.now (store e.bytes c.args.tables.now) c.args.out.now c.if-not-fit.ensures;
+      value = print_short e.heading e.columns c.args.replica.now (store e.bytes c.args.tables.now) c.args.out.now (rw c.grid.ensures at c.if-not-fit.ensures);
       grid = tt;
     }
 
@@ -22,9 +22,9 @@ returns-then-out-file_len g c =
     let m = c.args.replica.now in
     let cells = c.counted-pages.result.now in
     let book = leading (map (option_map (paged e.bytes)) cells) in
-    let is = book_is e.bytes m c.args.tables.now cells c.counted-pages.ensures.value in
+    let is = book_is e.bytes m c.args.tables.now cells (c.counted-pages.ensures.value ∙ ap (take m.pages) c.as_slice.ensures) in
     record {
-      value = print_long e.heading e.columns m (store e.bytes c.args.tables.now) c.args.out.now c.if-not-fit.ensures book is
+      value = print_long e.heading e.columns m (store e.bytes c.args.tables.now) c.args.out.now (rw c.grid.ensures at c.if-not-fit.ensures) book is
           c.file_len.result c.file_len.ensures c.if-out-file_len.true;
       grid = tt;
     }
@@ -39,8 +39,8 @@ returns g c =
     let t = store e.bytes c.args.tables.now in
     let cells = c.counted-pages.result.now in
     let book = leading (map (option_map (paged e.bytes)) cells) in
-    let is = book_is e.bytes m c.args.tables.now cells c.counted-pages.ensures.value in
+    let is = book_is e.bytes m c.args.tables.now cells (c.counted-pages.ensures.value ∙ ap (take m.pages) c.as_slice.ensures) in
     record {
-      value = print_done e.heading e.columns m t c.args.out.now c.if-not-fit.ensures book is c.put_file.result c.put_file.new.out c.put_file.ensures;
-      grid = print_grid e.heading e.columns m t c.args.out.now c.if-not-fit.ensures book is c.put_file.result c.put_file.new.out c.put_file.ensures;
+      value = print_done e.heading e.columns m t c.args.out.now (rw c.grid.ensures at c.if-not-fit.ensures) book is c.put_file.result c.put_file.new.out c.put_file.ensures;
+      grid = print_grid e.heading e.columns m t c.args.out.now (rw c.grid.ensures at c.if-not-fit.ensures) book is c.put_file.result c.put_file.new.out c.put_file.ensures;
     }

@@ -19,19 +19,19 @@ pub returns-then-not-fit : goal.returns-then-not-fit
 returns-then-not-fit g c =
     let m = c.args.replica.now in
     let t = store g.K.Entry.bytes c.args.tables.now in
-    record { value = show_short m t c.args.number c.args.out.now c.if-not-fit.ensures; law = law g m c.args.tables.now }
+    record { value = show_short m t c.args.number c.args.out.now (rw c.grid.ensures at c.if-not-fit.ensures); law = law g m c.args.tables.now }
 
 pub returns-in_default : goal.returns-in_default
 returns-in_default g c =
     let m = c.args.replica.now in
     let t = store g.K.Entry.bytes c.args.tables.now in
-    record { value = show_past m t c.args.number c.args.out.now c.if-not-fit.ensures c.in_default.ensures; law = law g m c.args.tables.now }
+    record { value = show_past m t c.args.number c.args.out.now (rw c.grid.ensures at c.if-not-fit.ensures) c.in_default.ensures; law = law g m c.args.tables.now }
 
 pub returns : goal.returns
 returns g c =
     let m = c.args.replica.now in
     let t = store g.K.Entry.bytes c.args.tables.now in
     record {
-      value = c.lay.ensures ∙ show_from m t c.args.number c.args.out.now c.if-not-fit.ensures c.in-Some.from c.in-Some.ensures;
+      value = c.lay.ensures ∙ show_from m t c.args.number c.args.out.now (rw c.grid.ensures at c.if-not-fit.ensures) c.in-Some.from c.in-Some.ensures;
       law = law g m c.args.tables.now;
     }
