@@ -6,7 +6,6 @@ use Rattle.theory.specs.Statement.{Stmt, sends, at_send}
 use Rattle.theory.specs.Plan.{sameness}
 use Rattle.theory.specs.Book.{stands_in_book}
 use Rattle.theory.specs.Machine.{small, says}
-use Rattle.theory.specs.Search.{unless}
 use Rattle.theory.specs.Calls.{ranged, takes}
 use Rattle.theory.proofs.Searching.{first_some, unless_some, only_if_some, only_if_true}
 use Rattle.cells.specs.Rows.{slot_of}
@@ -22,16 +21,8 @@ use Rattle.intake.proofs.Heard.{ok≢err}
 
 -- a slot of the own queue, by its cell
 module _ (m : Replica) (t : Store) (s : ℕ) (l : s < m.set.w) where
-  own_cell : view m t m.set.me (at_send s) ≡ option_map (sends s) (get_or t.sends (slot_of m.set.w m.set.me s) None)
+  pub own_cell : view m t m.set.me (at_send s) ≡ option_map (sends s) (get_or t.sends (slot_of m.set.w m.set.me s) None)
   own_cell = rw (lt-ltb m.set.me m.set.n m.set.own, lt-ltb s m.set.w l) refl
-
-  pub slot_free : get_or t.sends (slot_of m.set.w m.set.me s) None ≡ None → unless (view m t m.set.me (at_send s)) (Some s) ≡ Some s
-  unfolding unless
-  slot_free e = rw (own_cell ∙ ap (option_map (sends s)) e) refl
-
-  pub slot_used : (x : List ℕ) → get_or t.sends (slot_of m.set.w m.set.me s) None ≡ Some x → unless (view m t m.set.me (at_send s)) (Some s) ≡ None
-  unfolding unless
-  slot_used x e = rw (own_cell ∙ ap (option_map (sends s)) e) refl
 
 -- the slot that is found is below W and free
 pub unused_free : (m : Replica) (t : Store) (k : ℕ) → unused_of m t ≡ Some k → (k < m.set.w) × (view m t m.set.me (at_send k) ≡ None)

@@ -1,6 +1,9 @@
-ghost use Rattle.std.specs.Prelude.{◌≡◌, ◌<◌, true, MatchOption};
+ghost use Rattle.std.specs.Prelude.{◌≡◌, ◌<◌};
 ghost use Rattle.common.specs.Refusals.{answered, numbered};
-ghost use Rattle.replica.specs.Store.{store, fits};
+ghost use Rattle.theory.specs.Statement.{at_send};
+ghost use Rattle.theory.specs.Search.{absent};
+ghost use Rattle.replica.specs.Store.{store};
+ghost use Rattle.replica.specs.View.{view};
 ghost use Rattle.replica.specs.Claims.{claim_of};
 ghost use Rattle.intake.specs.Submitting.{unused_of, offer_of, submit_of, Submits};
 
@@ -8,19 +11,21 @@ use common::Refusal;
 use entry::Entry;
 use replica::{Claim, Replica, Tables};
 
-// The lowest slot of the own queue without an own send.
-fn unused<K: Entry>(replica: &Replica, tables: &Tables<'_, K>) -> Option<u8>
-    requires { fits replica.now.set.n replica.now.set.w (store K.bytes tables.now) ≡ true }
-    ensures { result ≡ unused_of replica.now (store K.bytes tables.now) }
+// Whether a slot of the own queue has no own send.
+fn is_unused<K: Entry>(replica: &Replica, tables: &Tables<'_, K>, slot: u8) -> bool
+    requires { slot < replica.now.set.w }
+    ensures { result ≡ absent (view replica.now (store K.bytes tables.now) replica.now.set.me (at_send slot)) }
 {
     let set = replica.set;
-    let grid = set.grid();
-    for slot in 0..set.w {
-        if tables.sends.get(grid.slot_place(set.me, slot)).is_none() {
-            return Some(slot);
-        }
-    }
-    None
+    let at = set.grid().slot_place(set.me, slot);
+    tables.sends.get(at).is_none()
+}
+
+// The lowest slot of the own queue without an own send.
+fn unused<K: Entry>(replica: &Replica, tables: &Tables<'_, K>) -> Option<u8>
+    ensures { result ≡ unused_of replica.now (store K.bytes tables.now) }
+{
+    (0..replica.set.w).find(|slot| is_unused(replica, tables, *slot))
 }
 
 // The send that the bytes of an entry become.

@@ -1,40 +1,32 @@
-use Rattle.std.proofs.Common.{◌≡◌, ℕ, true, false, List, map, get_or, is_some, Some, None, Option, sym, refl, ap, ◌∙◌}
+use Rattle.std.proofs.Common.{◌≡◌, ℕ, ◌<◌, ◌≤◌, true, false, Some, None, Option, MatchOption, sym, refl, arith, rules}
 use mathlib.Core.Bool.{false≢true}
-use Rattle.std.specs.Option.{option_map}
+use Rattle.std.proofs.lemmas.Iterator.{first_from_Range}
+use Rattle.theory.specs.Statement.{at_send}
+use Rattle.theory.specs.Search.{absent, first, unless}
+use Rattle.theory.proofs.Searching.{first_empty, first_hit}
 use Rattle.replica.specs.Store.{store}
-use Rattle.cells.proofs.Cellrows.{map_read}
-use Rattle.cells.proofs.Firsts.{first_start, first_on, first_hit}
-use Rattle.intake.proofs.Submitted.{slot_free, slot_used}
+use Rattle.replica.specs.View.{view}
 use Rattle.intake.proofs.submits.unused.Goals as goal
 
-none : {K : Type 0} (bytes : K → List ℕ) (o : Option K) → is_some o ≡ false → option_map bytes o ≡ None
-none bytes None e = refl
-none bytes (Some k) e = absurd (false≢true (sym e))
+module _ {X : Type 0} where
+  free_at : (o : Option X) (s : ℕ) → absent o ≡ true → unless o (Some s) ≡ Some s
+  unfolding unless
+  free_at None s e = refl
+  free_at (Some x) s e = absurd (false≢true e)
 
-some : {K : Type 0} (bytes : K → List ℕ) (o : Option K) → is_some o ≡ true → (x : List ℕ) × (option_map bytes o ≡ Some x)
-some bytes None e = absurd (false≢true e)
-some bytes (Some k) e = (bytes k, refl)
+  used_at : (o : Option X) (s : ℕ) → absent o ≡ false → unless o (Some s) ≡ None
+  unfolding unless
+  used_at None s e = absurd (false≢true (sym e))
+  used_at (Some x) s e = refl
 
--- what was read at a place, by its bytes
-read : {K : Type 0} (bytes : K → List ℕ) (cells : List (Option K)) (at place : ℕ) (o : Option K) → at ≡ place → o ≡ get_or cells at None → get_or (map (option_map bytes) cells) place None ≡ option_map bytes o
-read bytes cells at place o e h = ap (λ i. get_or (map (option_map bytes) cells) i None) (sym e) ∙ map_read bytes cells at ∙ ap (option_map bytes) (sym h)
+  -- the first slot that was found absent is the first that the rule answers
+  found : (o : ℕ → Option X) (n : ℕ) (r : Option ℕ) → MatchOption r ((k : ℕ) → 0 ≤ k → k < n → absent (o k) ≡ false) (λ i. (0 ≤ i) × (i < n) × (absent (o i) ≡ true) × ((k : ℕ) → 0 ≤ k → k < i → absent (o k) ≡ false)) → r ≡ first n (λ s. unless (o s) (Some s))
+  found o n None h = sym (first_empty n (λ s. unless (o s) (Some s)) (λ k l. used_at (o k) k (h k (omega arith) l)))
+  found o n (Some i) h = sym (first_hit n (λ s. unless (o s) (Some s)) i i h.1 (free_at (o i) i h.2, λ k l. used_at (o k) k (h.3 k (omega arith) l)))
 
-pub returns-then-is_none : goal.returns-then-is_none
-returns-then-is_none g c =
-    let b = g.K.Entry.bytes in
+pub returns : goal.returns
+returns g c =
     let m = c.args.replica.now in
-    let t = store b c.args.tables.now in
-    sym (first_hit _ m.set.w c.loop-slot.slot c.loop-slot.slot c.loop-slot-test.true c.loop-slot.invariant
-    (slot_free m t c.loop-slot.slot c.loop-slot-test.true (read b c.args.tables.now.sends _ _ c.get.result (rw c.grid-grid.ensures at c.slot_place.ensures.value) c.get.ensures ∙ none b c.get.result c.if-is_none.ensures)))
-
-pub loop-slot-preserved : goal.loop-slot-preserved
-loop-slot-preserved g c =
-    let b = g.K.Entry.bytes in
-    let m = c.args.replica.now in
-    let t = store b c.args.tables.now in
-    let x = some b c.get.result c.if-is_none.ensures in
-    first_on _ c.loop-slot.slot c.loop-slot.invariant
-    (slot_used m t c.loop-slot.slot c.loop-slot-test.true x.0 (read b c.args.tables.now.sends _ _ c.get.result (rw c.grid-grid.ensures at c.slot_place.ensures.value) c.get.ensures ∙ x.1))
-
-pub loop-slot-init : goal.loop-slot-init
-loop-slot-init g c = first_start _
+    let t = store g.K.Entry.bytes c.args.tables.now in
+    let own = λ (s : ℕ). view m t m.set.me (at_send s) in
+    found own m.set.w c.find.result (first_from_Range _ _ _ c.find.result (λ s. absent (own s) ≡ true) (λ s. absent (own s) ≡ false) c.find.ensures.ran (λ x q k. search rules) (λ x q k. search rules))
