@@ -1,8 +1,9 @@
 -- The board is just what the replica holds from itself.
-use Rattle.std.proofs.Common.{◌≡◌, ℕ, zero, suc, ◌<◌, List, [], ◌∷◌, map, length, get_or, Some, None, Option, sym, ap, ◌∙◌, arith}
-use Rattle.std.specs.List.{ContainsAt}
+use Rattle.std.proofs.Common.{◌≡◌, ℕ, zero, suc, ◌^◌, ◌<◌, ◌≤◌, List, [], ◌∷◌, map, length, get_or, Some, None, Option, refl, drop, sym, ap, ◌∙◌, arith}
+use Rattle.std.specs.List.{ContainsAt, AllByRecursion}
 use Rattle.std.proofs.ByRecursion.{has_append_right}
 use Rattle.std.proofs.lemmas.List.{get_or-map}
+use Rattle.std.proofs.lemmas.Nat.{mul-le}
 use Rattle.theory.specs.Statement.{Stmt, Cell, cell}
 use Rattle.theory.specs.Machine.{Board}
 use Rattle.wire.specs.Codec.{unfit}
@@ -11,7 +12,8 @@ use Rattle.replica.specs.Store.{Store}
 use Rattle.replica.specs.View.{view, box}
 use Rattle.showing.specs.Boards.{order, places, filled, board_of}
 use Rattle.showing.specs.Spoken.{spoken}
-use Rattle.showing.proofs.Standing.{Wide, stands, broad, placed_in}
+use Rattle.showing.proofs.Standing.{Wide, stands, broad, placed_in, place_fits}
+use Rattle.showing.proofs.Ordering.{length_places}
 
 pub filled_has : {A : Type 0} (os : List (Option A)) (i : ℕ) (x : A) → Some x ≡ get_or os i None → ContainsAt (filled os) x
 filled_has [] i x e = absurd (let z : ◌≡◌ {A = ℕ} 0 1 = cc in omega arith)
@@ -25,6 +27,29 @@ has_filled [] k x low is = absurd (omega arith)
 has_filled (None ∷ os) k x low is = let r = has_filled os k x low is in (suc r.0, r.1)
 has_filled (Some y ∷ os) zero x low is = (0, sym (ap Some (is y)))
 has_filled (Some y ∷ os) (suc k) x low is = let r = has_filled os k x (omega arith) is in (suc r.0, r.1)
+
+all_filled : {A : Type 0} (P : A → Type 0) (os : List (Option A)) → ((i : ℕ) (x : A) → Some x ≡ get_or os i None → P x) → AllByRecursion P (filled os)
+all_filled P [] each = tt
+all_filled P (None ∷ os) each = all_filled P os (λ i x e. each (suc i) x e)
+all_filled P (Some x ∷ os) each = (each 0 x refl, all_filled P os (λ i y e. each (suc i) y e))
+
+pub all_drop : {A : Type 0} (P : A → Type 0) (k : ℕ) (xs : List A) → AllByRecursion P xs → AllByRecursion P (drop k xs)
+all_drop P zero xs each = each
+all_drop P (suc k) [] each = tt
+all_drop P (suc k) (x ∷ xs) each = all_drop P k xs each.1
+
+few_filled : {A : Type 0} (os : List (Option A)) → length (filled os) ≤ length os
+few_filled [] = omega arith
+few_filled (None ∷ os) = omega (arith, few_filled os)
+few_filled (Some x ∷ os) = omega (arith, few_filled os)
+
+-- the board's statements can be written and numbered
+module _ (m : Replica) (t : Store) where
+  pub board_writable : (w : ℕ) → Wide w t → AllByRecursion (λ s. unfit w (spoken s) ≡ None) (board_of m t)
+  board_writable w wide = all_filled (λ s. unfit w (spoken s) ≡ None) (places m t) (λ i s e. place_fits w m t i s wide e)
+
+  pub board_few : length (board_of m t) < 2 ^ 64
+  board_few = omega (arith, few_filled (places m t), length_places m t, mul-le m.set.n m.set.w 16 16 m.set.most m.set.slots, m.set.slots)
 
 module _ (m : Replica) (t : Store) (s : Stmt (List ℕ)) where
   abbrev here : Cell → Option (Stmt (List ℕ))

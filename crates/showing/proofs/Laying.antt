@@ -75,6 +75,10 @@ pub record Laid (was : List ℕ) (all rest : List (List ℕ)) (number at next : 
 pub laid_start : (was : List ℕ) (all : List (List ℕ)) (number : ℕ) → Laid was all all number 0 number was
 laid_start was all number = record { done = []; split = refl; bytes = refl; count = omega arith; room = omega arith; holds = refl }
 
+-- so many statements are numbered in all
+pub laid_count : (was : List ℕ) (all rest : List (List ℕ)) (number at next : ℕ) (out : List ℕ) → Laid was all rest number at next out → next + length rest ≡ number + length all
+laid_count was all rest number at next out l = omega (arith, l.count, ap length l.split, length-append l.done rest)
+
 -- what is answered when no more is written
 pub answered_done :
     (number : ℕ) (done rest : List (List ℕ)) (was : List ℕ) → fitting (length was) (done ++ rest) ≡ done → (done ≡ [] → rest ≡ [])

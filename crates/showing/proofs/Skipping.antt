@@ -1,48 +1,21 @@
 -- Statements counted off from the front of the board.
-use Rattle.std.proofs.Common.{◌≡◌, ℕ, zero, suc, ◌+◌, ◌-◌, ◌<◌, ◌≤◌, List, ◌∷◌, length, get_or, drop, Some, None, Option, sym, refl, ap, ◌∙◌, arith}
-use Rattle.std.proofs.lemmas.List.{drop_more, drop_all}
+use Rattle.std.proofs.Common.{◌≡◌, ℕ, ◌+◌, ◌<◌, ◌≤◌, List, [], ◌∷◌, length, get_or, drop, None, Option, sym, ap, ◌∙◌, arith, length-drop, drop-drop}
+use Rattle.std.proofs.lemmas.List.{drop_more}
 use Rattle.theory.specs.Statement.{Stmt}
-use Rattle.showing.specs.Boards.{filled, Behind}
-
-abbrev pub Places : Type 0
-Places = List (Option (Stmt (List ℕ)))
+use Rattle.showing.specs.Boards.{filled}
 
 -- what is filled from the place i on, where o stands
-pub filled_next : (places : Places) (i : ℕ) (o : Option (Stmt (List ℕ))) → i < length places → o ≡ get_or places i None → filled (drop i places) ≡ filled (o ∷ drop (i + 1) places)
+pub filled_next : (places : List (Option (Stmt (List ℕ)))) (i : ℕ) (o : Option (Stmt (List ℕ))) → i < length places → o ≡ get_or places i None → filled (drop i places) ≡ filled (o ∷ drop (i + 1) places)
 filled_next places i o h e = ap filled (drop_more places i None h ∙ ap (λ x. x ∷ drop (i + 1) places) (sym e))
 
--- at the place i, with so many of k statements to go
-pub record Going (k i left : ℕ) (places : Places) : Type 0 where
-  pub low : k ≤ i + left
-  pub count : length (filled (drop i places)) + k ≡ length (filled places) + left
-  pub same : drop left (filled (drop i places)) ≡ drop k (filled places)
+-- the first k of all are passed, and these are left
+abbrev pub Passed : {A : Type 0} → ℕ → List A → List A → Type 0
+Passed k all left = (k ≤ length all) × (left ≡ drop k all)
 
-pub going_start : (k : ℕ) (places : Places) → Going k 0 k places
-going_start k places = record { low = omega arith; count = refl; same = refl }
+pub passed_more : {A : Type 0} (k : ℕ) (all left rest : List A) (x : A) → Passed k all left → left ≡ x ∷ rest → Passed (k + 1) all rest
+passed_more k all left rest x p e =
+    let is : drop k all ≡ x ∷ rest = sym p.1 ∙ e in
+    (omega (arith, ap length is, length-drop k all), sym (ap (drop 1) is) ∙ drop-drop 1 k all)
 
-module _ (k i left : ℕ) (places : Places) (g : Going k i left places) where
-  pub going_there : left ≡ 0 → Behind k i places
-  going_there z = record { low = omega arith; enough = omega arith; left = sym (ap (λ n. drop n (filled (drop i places))) z) ∙ g.same }
-
-  pub going_none : i < length places → None ≡ get_or places i None → Going k (i + 1) left places
-  going_none h e =
-      let next = filled_next places i None h e in
-      record { low = omega arith; count = sym (ap (λ l. length l + k) next) ∙ g.count; same = sym (ap (drop left) next) ∙ g.same }
-
-  pub going_short : length places ≤ i → (left ≡ 0 → ⊥) → length (filled places) < k
-  going_short h z =
-      let none : length (filled (drop i places)) ≡ 0 = ap (λ l. length (filled l)) (drop_all i places h) in
-      omega arith
-
--- one of them is passed
-pub going_some : (k i left : ℕ) (places : Places) (s : Stmt (List ℕ)) → Going k i left places → i < length places → (left ≡ 0 → ⊥) → Some s ≡ get_or places i None → Going k (i + 1) (left - 1) places
-going_some k i zero places s g h z e = absurd (z refl)
-going_some k i (suc n) places s g h z e =
-    let next : filled (drop i places) ≡ s ∷ filled (drop (i + 1) places) = filled_next places i (Some s) h e in
-    let one : suc n - 1 ≡ n = omega arith in
-    let rest = filled (drop (i + 1) places) in
-    record {
-      low = omega arith;
-      count = omega (arith, ap length next, g.count);
-      same = ap (λ j. drop j rest) one ∙ sym (ap (drop (suc n)) next) ∙ g.same;
-    }
+pub passed_all : {A : Type 0} (k : ℕ) (all left : List A) → Passed k all left → left ≡ [] → length all ≤ k
+passed_all k all left p e = omega (arith, ap length (sym p.1 ∙ e), length-drop k all)

@@ -1,5 +1,5 @@
 -- The board: all that a replica holds from itself, in a fixed order.
-use Rattle.std.specs.Prelude.{◌≡◌, ℕ, ◌*◌, ◌/◌, ◌%◌, ◌≤◌, true, false, cond, List, [], ◌∷◌, ◌++◌, map, length, drop, Some, None, Option, ◌==◌}
+use Rattle.std.specs.Prelude.{◌≡◌, ℕ, ◌*◌, ◌/◌, ◌%◌, true, false, cond, List, [], ◌∷◌, ◌++◌, map, drop, Some, None, Option, ◌==◌}
 use Rattle.std.specs.List.{range_with_len}
 use Rattle.common.specs.Limits.{epochs, rounds}
 use Rattle.theory.specs.Statement.{Stmt, Cell, at_send, at_echo, at_ready, at_have, at_value, at_seen, at_confirm, at_finish}
@@ -7,9 +7,10 @@ use Rattle.theory.specs.Machine.{own}
 use Rattle.cells.specs.Rows.{Cells}
 use Rattle.replica.specs.declared.set.Set.{Set}
 use Rattle.replica.specs.declared.state.Replica.{Replica}
+use Rattle.replica.specs.declared.claim.Claim.{Claim}
+use Rattle.replica.specs.Claims.{claim_of}
 use Rattle.replica.specs.Store.{Store}
 use Rattle.replica.specs.View.{row_cell, box}
-use Rattle.showing.specs.declared.held.Held.{Held}
 
 -- the cells f 0 to f (k - 1)
 unfoldable pub run : ℕ → (ℕ → Cell) → List Cell
@@ -50,19 +51,17 @@ filled [] = []
 filled (Some x ∷ xs) = x ∷ filled xs
 filled (None ∷ xs) = filled xs
 
+-- the statements that stand from the place p on, and all
+abbrev pub standing : ℕ → Replica → Store → List (Stmt (List ℕ))
+standing p m t = filled (drop p (places m t))
+
 abbrev pub board_of : Replica → Store → List (Stmt (List ℕ))
 board_of m t = filled (places m t)
 
--- the statement that st makes of an entry and where it stands
-abbrev pub stated : {K : Type 0} → (K → List ℕ) → (ℕ → ℕ → List ℕ → Stmt (List ℕ)) → Held K → Stmt (List ℕ)
-stated bytes st h = st h.queue h.slot (bytes h.item)
+-- what is made of a queue, a slot and an entry states st of them
+abbrev pub Makes : {K : Type 0} → (K → List ℕ) → (ℕ → ℕ → K → Claim K → Type 0) → (ℕ → ℕ → List ℕ → Stmt (List ℕ)) → Type 0
+Makes {K} bytes made st = (q s : ℕ) (x : K) (c : Claim K) → made q s x c → claim_of bytes c ≡ st q s (bytes x)
 
 -- the replica's own statement, which st makes, of the slot j of all queues
 abbrev pub own_row : Set → Cells → (ℕ → ℕ → List ℕ → Stmt (List ℕ)) → ℕ → Option (Stmt (List ℕ))
 own_row set cells st j = row_cell set.n set.w cells (st (j / set.w) (j % set.w)) (j / set.w) (j % set.w) set.me
-
--- just k filled places lie before the place p
-pub record Behind (k p : ℕ) (places : List (Option (Stmt (List ℕ)))) : Type 0 where
-  pub low : k ≤ p
-  pub enough : k ≤ length (filled places)
-  pub left : filled (drop p places) ≡ drop k (filled places)

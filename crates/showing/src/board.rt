@@ -1,18 +1,45 @@
 // The places of the board.
-ghost use Rattle.std.specs.Prelude.{◌≡◌, ◌<◌, true, length, None, MatchOption, slice_index_or};
+ghost use Rattle.std.specs.Prelude.{◌≡◌, ◌<◌, length, None, slice_index_or};
+ghost use Rattle.std.specs.Iterator.{YieldsFirstBy, item_count};
 ghost use Rattle.std.specs.Option.{option_map};
 ghost use Rattle.replica.specs.Claims.{claim_of};
-ghost use Rattle.replica.specs.Store.{Store, store, fits};
-ghost use Rattle.showing.specs.Boards.{places as board, board_of, Behind};
+ghost use Rattle.replica.specs.Store.{Store, store};
+ghost use Rattle.showing.specs.Boards.{places as board, standing};
 
 use crate::ballots::{finish_at, vote_at};
-use crate::slots::{echo_at, have_at, ready_at, send_at};
+use crate::slots::{entry_at, send_at};
 use common::{EPOCHS, ROUNDS};
 use entry::Entry;
-use replica::{Claim, Replica, Tables};
+use replica::{Claim, Fitted, Replica};
+
+// The board from a place on.
+#[derive(Drop)]
+pub struct Board<'a, 't, K: Entry> {
+    pub lent: Fitted<'a, 't, K>,
+    pub place: usize,
+}
+
+// The claims that stand there, in their order.
+impl<'a, 't, K: Entry> Iterator for Board<'a, 't, K> {
+    type Item = Claim<K>;
+
+    ghost next_gives = { YieldsFirstBy (claim_of K.bytes) (λ b. standing b.place b.lent.replica.now (store K.bytes b.lent.tables.now)) };
+
+    ghost remaining = { item_count (λ b. standing b.place b.lent.replica.now (store K.bytes b.lent.tables.now)) };
+
+    fn next(&mut self) -> Option<Claim<K>> {
+        for i in self.place..places(self.lent.replica) {
+            if let Some(claim) = claim_at(&self.lent, i) {
+                self.place = i + 1;
+                return Some(claim);
+            }
+        }
+        None
+    }
+}
 
 // How many places there are.
-pub fn places(replica: &Replica) -> usize
+fn places(replica: &Replica) -> usize
     ensures { (t : Store) → result ≡ length (board replica.now t) }
 {
     let set = &replica.set;
@@ -22,50 +49,35 @@ pub fn places(replica: &Replica) -> usize
 }
 
 // What stands at the place `i`.
-pub fn claim_at<K: Entry>(replica: &Replica, tables: &Tables<'_, K>, i: usize) -> Option<Claim<K>>
-    requires low { i < length (board replica.now (store K.bytes tables.now)) }
-    requires long { fits replica.now.set.n replica.now.set.w (store K.bytes tables.now) ≡ true }
-    ensures { option_map (claim_of K.bytes) result ≡ slice_index_or (board replica.now (store K.bytes tables.now)) i None }
+fn claim_at<K: Entry>(lent: &Fitted<'_, '_, K>, i: usize) -> Option<Claim<K>>
+    requires { i < length (board lent.now.replica.now (store K.bytes lent.now.tables.now)) }
+    ensures { option_map (claim_of K.bytes) result ≡ slice_index_or (board lent.now.replica.now (store K.bytes lent.now.tables.now)) i None }
 {
-    let w = replica.set.w as usize;
+    let set = &lent.replica.set;
+    let w = set.w as usize;
     if i < w {
-        return send_at(replica, tables, i as u8);
+        return send_at(lent, i as u8);
     }
-    let rows = replica.set.n as usize * w;
     let i = i - w;
+    let rows = set.n as usize * w;
     if i < rows {
-        return echo_at(replica, tables, i);
+        let echo = |queue, slot, item| Claim::Echo { queue, slot, item };
+        return entry_at(&lent.tables.echoes, set, i, echo);
     }
     let i = i - rows;
     if i < rows {
-        return ready_at(replica, tables, i);
+        let ready = |queue, slot, item| Claim::Ready { queue, slot, item };
+        return entry_at(&lent.tables.readies, set, i, ready);
     }
     let i = i - rows;
     if i < rows {
-        return have_at(replica, tables, i);
+        let have = |queue, slot, item| Claim::Have { queue, slot, item };
+        return entry_at(&lent.tables.haves, set, i, have);
     }
     let i = i - rows;
     let epochs = EPOCHS as usize;
     if i < epochs {
-        return finish_at(replica, i as u16);
+        return finish_at(lent.replica, i as u16);
     }
-    vote_at(replica, i - epochs)
-}
-
-// The place behind the first `number` statements, if there are so many.
-pub fn skip<K: Entry>(replica: &Replica, tables: &Tables<'_, K>, number: usize) -> Option<usize>
-    requires { fits replica.now.set.n replica.now.set.w (store K.bytes tables.now) ≡ true }
-    ensures { MatchOption result (length (board_of replica.now (store K.bytes tables.now)) < number) (λ p. Behind number p (board replica.now (store K.bytes tables.now))) }
-{
-    let end = places(replica);
-    let mut left = number;
-    for i in 0..end {
-        if left == 0 {
-            return Some(i);
-        }
-        if let Some(_claim) = claim_at(replica, tables, i) {
-            left -= 1;
-        }
-    }
-    if left == 0 { Some(end) } else { None }
+    vote_at(lent.replica, i - epochs)
 }

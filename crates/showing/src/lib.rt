@@ -4,7 +4,6 @@
 
 mod ballots;
 mod board;
-mod held;
 mod output;
 mod shown;
 mod slots;

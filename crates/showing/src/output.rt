@@ -1,46 +1,50 @@
 // The board, written out.
-ghost use Rattle.std.specs.Prelude.{◌≡◌, ◌≤◌, true, map, drop};
+ghost use Rattle.std.specs.Prelude.{◌≡◌, ◌+◌, ◌^◌, ◌<◌, ◌≤◌, map, length, drop, None, MatchOption};
+ghost use Rattle.std.specs.List.{AllByRecursion};
 ghost use Rattle.common.specs.Refusals.{answered};
-ghost use Rattle.replica.specs.Store.{store, fits};
-ghost use Rattle.showing.specs.Boards.{places as board, filled};
-ghost use Rattle.showing.specs.Spoken.{spelled};
+ghost use Rattle.wire.specs.Codec.{unfit};
+ghost use Rattle.replica.specs.Store.{store};
+ghost use Rattle.showing.specs.Boards.{standing};
+ghost use Rattle.showing.specs.Spoken.{spoken, spelled};
 ghost use Rattle.showing.specs.Laws.{Shows};
 ghost use Rattle.showing.specs.Showing.{pair_of, lay_of, show_of};
 
-use crate::board::{claim_at, places, skip};
+use crate::board::Board;
 use crate::shown::Shown;
 use crate::words::write;
 use common::Refusal;
 use entry::Entry;
 use replica::{Replica, Tables};
 
-// Writes the statements from the place `from` on, which begin at `number`, while they fit.
-fn lay<K: Entry>(
-    replica: &Replica,
-    tables: &Tables<'_, K>,
-    from: usize,
-    number: usize,
-    out: &mut [u8],
-) -> Result<Shown, Refusal>
-    requires low { number ≤ from }
-    requires long { fits replica.now.set.n replica.now.set.w (store K.bytes tables.now) ≡ true }
-    ensures { (answered pair_of result, out.new) ≡ lay_of number (map spelled (filled (drop from (board replica.now (store K.bytes tables.now))))) out.old }
+// The board behind its first `number` statements, if there are so many.
+fn skip<'a, 't, K: Entry>(mut board: Board<'a, 't, K>, number: usize) -> Option<Board<'a, 't, K>>
+    ensures { MatchOption result (length (standing board.entry.place board.entry.lent.replica.now (store K.bytes board.entry.lent.tables.now)) < number) (λ rest. (number ≤ length (standing board.entry.place board.entry.lent.replica.now (store K.bytes board.entry.lent.tables.now))) × (standing rest.place rest.lent.replica.now (store K.bytes rest.lent.tables.now) ≡ drop number (standing board.entry.place board.entry.lent.replica.now (store K.bytes board.entry.lent.tables.now)))) }
+{
+    for _ in 0..number {
+        board.next()?;
+    }
+    Some(board)
+}
+
+// Writes the statements of a board, which begin at `number`, while they fit.
+fn lay<K: Entry>(board: Board<'_, '_, K>, number: usize, out: &mut [u8]) -> Result<Shown, Refusal>
+    requires few { number + length (standing board.place board.lent.replica.now (store K.bytes board.lent.tables.now)) < 2 ^ 64 }
+    requires fit { AllByRecursion (λ s. unfit K.WIDTH (spoken s) ≡ None) (standing board.place board.lent.replica.now (store K.bytes board.lent.tables.now)) }
+    ensures { (answered pair_of result, out.new) ≡ lay_of number (map spelled (standing board.entry.place board.entry.lent.replica.now (store K.bytes board.entry.lent.tables.now))) out.old }
 {
     let mut at = 0;
     let mut next = number;
-    for i in from..places(replica) {
-        if let Some(claim) = claim_at(replica, tables, i) {
-            match write(&claim, &mut out[at..]) {
-                Ok(bytes) => {
-                    at += bytes;
-                    next += 1;
+    for claim in board {
+        match write(&claim, &mut out[at..]) {
+            Ok(bytes) => {
+                at += bytes;
+                next += 1;
+            }
+            Err(refusal) => {
+                if next == number {
+                    return Err(refusal);
                 }
-                Err(refusal) => {
-                    if next == number {
-                        return Err(refusal);
-                    }
-                    return Ok(Shown { bytes: at, next });
-                }
+                return Ok(Shown { bytes: at, next });
             }
         }
     }
@@ -57,11 +61,21 @@ pub fn show<K: Entry>(
     ensures value { (answered pair_of result, out.new) ≡ show_of replica.now (store K.bytes tables.now) number out.old }
     ensures law { Shows K.WIDTH replica.now (store K.bytes tables.now) }
 {
-    if !tables.fit(replica.set.grid()) {
-        return Err(Refusal::Table);
-    }
-    let Some(from) = skip(replica, tables, number) else {
+    write_out(replica, tables, number, out)
+}
+
+fn write_out<K: Entry>(
+    replica: &Replica,
+    tables: &Tables<'_, K>,
+    number: usize,
+    out: &mut [u8],
+) -> Result<Shown, Refusal>
+    ensures { (answered pair_of result, out.new) ≡ show_of replica.now (store K.bytes tables.now) number out.old }
+{
+    let lent = replica.fitted(tables)?;
+    let board = Board { lent, place: 0 };
+    let Some(rest) = skip(board, number) else {
         return Err(Refusal::Number);
     };
-    lay(replica, tables, from, number, out)
+    lay(rest, number, out)
 }

@@ -18,14 +18,12 @@ fn item_in<K: Entry>(claim: &Claim<K>) -> Option<K>
     ensures { option_map K.bytes result ≡ entry_stated (claim_of K.bytes claim.now) }
 {
     match claim {
-        Claim::Send { item, .. } => Some(*item),
-        Claim::Echo { item, .. } => Some(*item),
-        Claim::Ready { item, .. } => Some(*item),
-        Claim::Have { item, .. } => Some(*item),
-        Claim::Value { .. } => None,
-        Claim::Seen { .. } => None,
-        Claim::Confirm { .. } => None,
-        Claim::Finish { .. } => None,
+        Claim::Send { item, .. }
+        | Claim::Echo { item, .. }
+        | Claim::Ready { item, .. }
+        | Claim::Have { item, .. } => Some(*item),
+        Claim::Value { .. } | Claim::Seen { .. } | Claim::Confirm { .. } | Claim::Finish { .. } =>
+            None,
     }
 }
 
@@ -34,9 +32,8 @@ fn put_item<K: Entry>(claim: &Claim<K>, out: &mut [u8])
     requires { K.WIDTH ≤ length out.old }
     ensures { (x : List ℕ) → entry_stated (claim_of K.bytes claim.now) ≡ Some x → take K.WIDTH out.new ≡ x }
 {
-    match item_in(claim) {
-        Some(item) => item.write(out),
-        None => {}
+    if let Some(item) = item_in(claim) {
+        item.write(out);
     }
 }
 

@@ -1,75 +1,56 @@
-use Rattle.std.proofs.Common.{◌≡◌, ℕ, ◌+◌, ◌<◌, List, [], ◌∷◌, map, length, get_or, drop, Some, None, Option, sym, ap, subst, arith}
-use Rattle.std.proofs.lemmas.List.{drop_all}
+use Rattle.std.proofs.Common.{◌≡◌, ℕ, List, ◌∷◌, map, None, sym, ap, subst, arith}
+use Rattle.std.proofs.lemmas.List.{length-map}
+use Rattle.std.specs.List.{AllByRecursion}
 use Rattle.theory.specs.Statement.{Stmt}
+use Rattle.wire.specs.Codec.{unfit}
 use Rattle.replica.specs.Claims.{claim_of}
-use Rattle.replica.specs.declared.state.Replica.{Replica}
-use Rattle.replica.specs.Store.{Store, store}
-use Rattle.showing.specs.Boards.{places, filled}
-use Rattle.showing.specs.Spoken.{spelled}
-use Rattle.showing.proofs.Skipping.{filled_next}
-use Rattle.showing.proofs.Standing.{store_wide, place_fits}
-use Rattle.showing.proofs.Laying.{Laid, laid_start, laid_more, laid_stop, laid_first, laid_end}
+use Rattle.replica.specs.Store.{store}
+use Rattle.showing.specs.Boards.{standing}
+use Rattle.showing.specs.Spoken.{spoken, spelled}
+use Rattle.showing.proofs.Laying.{Laid, laid_start, laid_count, laid_more, laid_stop, laid_first, laid_end}
 use Rattle.showing.proofs.output.lay.Goals as goal
 
-pub write-requires : goal.write-requires
-write-requires g c =
-    let b = g.K.Entry.bytes in
-    let w = g.K.Entry.WIDTH in
-    let law = g.met.K.Entry in
-    let wide = store_wide b w c.args.tables.now (λ k. law.wide (b k) (law.sound k)) in
-    place_fits w c.args.replica.now (store b c.args.tables.now) c.loop-i.i (claim_of b c.in-Some.claim) wide c.in-Some.ensures
+-- the invariant, of the statements that are left
+abbrev Still : ℕ → List ℕ → List (Stmt (List ℕ)) → ℕ → ℕ → ℕ → List ℕ → List (Stmt (List ℕ)) → Type 0
+Still w was all number at next out rest = AllByRecursion (λ s. unfit w (spoken s) ≡ None) rest × Laid was (map spelled all) (map spelled rest) number at next out
 
--- the rest begins with what stands at the place
 onward :
-    (m : Replica) (t : Store) (i n : ℕ) (o : Option (Stmt (List ℕ))) (was : List ℕ) (all : List (List ℕ)) (number at next : ℕ) (out : List ℕ)
-    → n ≡ length (places m t) → i < n → o ≡ get_or (places m t) i None
-    → Laid was all (map spelled (filled (drop i (places m t)))) number at next out → Laid was all (map spelled (filled (o ∷ drop (i + 1) (places m t)))) number at next out
-onward m t i n o was all number at next out long low is l =
-    subst (λ rest. Laid was all (map spelled rest) number at next out) (filled_next (places m t) i o (omega arith) is) l
+    (w : ℕ) (was : List ℕ) (all : List (Stmt (List ℕ))) (number at next : ℕ) (out : List ℕ) (left rest : List (Stmt (List ℕ))) (s : Stmt (List ℕ))
+    → left ≡ s ∷ rest → Still w was all number at next out left → Still w was all number at next out (s ∷ rest)
+onward w was all number at next out left rest s e = subst (Still w was all number at next out) e
 
--- under the names that the values have where the ways meet
-renamed :
-    (was : List ℕ) (all rest : List (List ℕ)) (number at at' next next' : ℕ) (out out' : List ℕ) → at' ≡ at → next' ≡ next → out' ≡ out
-    → Laid was all rest number at next out → Laid was all rest number at' next' out'
-renamed was all rest number at at' next next' out out' e f h l =
-    subst (λ (p : ℕ × ℕ × List ℕ). Laid was all rest number p.0 p.1 p.2) (λ i. (sym e i, sym f i, sym h i)) l
+pub loop-claim-init : goal.loop-claim-init
+loop-claim-init g c =
+    let b = g.K.Entry.bytes in
+    let out = c.args.out.now in
+    let all = standing c.args.board.place c.args.board.lent.replica.now (store b c.args.board.lent.tables.now) in
+    subst (λ r. Still g.K.Entry.WIDTH out all c.args.number 0 c.args.number out (standing r.place r.lent.replica.now (store b r.lent.tables.now)))
+    (sym c.into_iter-claim-iterator.ensures.into_iter_gives)
+    (c.requires.fit, laid_start out (map spelled all) c.args.number)
 
-pub loop-i-init : goal.loop-i-init
-loop-i-init g c = (c.requires.low, laid_start _ _ _)
+pub write-requires : goal.write-requires
+write-requires g c = (onward _ _ _ _ _ _ _ _ _ (claim_of g.K.Entry.bytes c.in-Some.claim) c.in-Some.ensures.steps c.loop-claim.invariant).0.0
+
+pub overflow_add-next : goal.overflow_add-next
+overflow_add-next g c =
+    let l = (onward _ _ _ _ _ _ _ _ _ (claim_of g.K.Entry.bytes c.in-Some.claim) c.in-Some.ensures.steps c.loop-claim.invariant).1 in
+    let all = standing c.args.board.place c.args.board.lent.replica.now (store g.K.Entry.bytes c.args.board.lent.tables.now) in
+    omega (arith, laid_count _ _ _ _ _ _ _ l, length-map all spelled, c.requires.few)
+
+pub loop-claim-preserved : goal.loop-claim-preserved
+loop-claim-preserved g c =
+    let l = onward _ _ _ _ _ _ _ _ _ (claim_of g.K.Entry.bytes c.in-Some.claim) c.in-Some.ensures.steps c.loop-claim.invariant in
+    (l.0.1, laid_more _ _ _ _ _ _ _ _ c.write.new.out l.1 c.in-Ok.bytes c.in-Ok.ensures)
 
 pub returns-then-next-number : goal.returns-then-next-number
 returns-then-next-number g c =
-    let b = g.K.Entry.bytes in
-    let t = store b c.args.tables.now in
-    let l = onward c.args.replica.now t c.loop-i.i _ (Some (claim_of b c.in-Some.claim)) _ _ _ _ _ _ (c.places-i-end.ensures t) c.loop-i-test.true c.in-Some.ensures c.loop-i.invariant.1 in
+    let l = (onward _ _ _ _ _ _ _ _ _ (claim_of g.K.Entry.bytes c.in-Some.claim) c.in-Some.ensures.steps c.loop-claim.invariant).1 in
     laid_first _ _ _ _ _ _ _ _ c.write.new.out l _ c.in-Err.ensures c.if-next-number.true
 
 pub returns-in-Err : goal.returns-in-Err
 returns-in-Err g c =
-    let b = g.K.Entry.bytes in
-    let t = store b c.args.tables.now in
-    let l = onward c.args.replica.now t c.loop-i.i _ (Some (claim_of b c.in-Some.claim)) _ _ _ _ _ _ (c.places-i-end.ensures t) c.loop-i-test.true c.in-Some.ensures c.loop-i.invariant.1 in
+    let l = (onward _ _ _ _ _ _ _ _ _ (claim_of g.K.Entry.bytes c.in-Some.claim) c.in-Some.ensures.steps c.loop-claim.invariant).1 in
     laid_stop _ _ _ _ _ _ _ _ c.write.new.out l _ c.in-Err.ensures c.if-next-number.false
 
-pub loop-i-preserved : goal.loop-i-preserved
-loop-i-preserved g c =
-    let b = g.K.Entry.bytes in
-    let t = store b c.args.tables.now in
-    let within = c.loop-i.invariant.0 in
-    elim c.match-claim_at.branch [
-      | goal.in-Some+in-Ok w ↦
-          let l = onward c.args.replica.now t c.loop-i.i _ (Some (claim_of b w.in-Some.claim)) _ _ _ _ _ _ (c.places-i-end.ensures t) c.loop-i-test.true w.in-Some.ensures c.loop-i.invariant.1 in (
-            omega (arith, w.next-is),
-            renamed _ _ _ _ _ _ _ _ _ _ w.at-is w.next-is w.out-is (laid_more _ _ _ _ _ _ _ _ w.write.new.out l w.in-Ok.bytes w.in-Ok.ensures),
-          )
-      | goal.in_default w ↦
-          let l = onward c.args.replica.now t c.loop-i.i _ None _ _ _ _ _ _ (c.places-i-end.ensures t) c.loop-i-test.true w.in_default.ensures c.loop-i.invariant.1 in
-          (omega (arith, w.next-is), renamed _ _ _ _ _ _ _ _ _ _ w.at-is w.next-is w.out-is l)
-    ]
-
 pub returns : goal.returns
-returns g c =
-    let t = store g.K.Entry.bytes c.args.tables.now in
-    let board = places c.args.replica.now t in
-    let end : map spelled (filled (drop c.loop-i.i board)) ≡ [] = ap (λ l. map spelled (filled l)) (drop_all c.loop-i.i board (omega (arith, c.loop-i-test.false, c.places-i-end.ensures t))) in
-    laid_end _ _ _ _ _ _ _ c.loop-i.invariant.1 end
+returns g c = laid_end _ _ _ _ _ _ _ c.loop-claim.invariant.1 (ap (map spelled) c.in-None.ensures.steps.0)

@@ -1,0 +1,60 @@
+use Rattle.std.proofs.Common.{◌≡◌, length, map, None, sym, ap, ◌∙◌, subst, arith, length-drop}
+use Rattle.std.specs.List.{AllByRecursion}
+use Rattle.std.proofs.lemmas.Result.{err_from_is_err_and}
+use Rattle.common.specs.Refusals.{declined}
+use Rattle.common.specs.declared.refusal.Refusal.TheVariants as refusals
+use Rattle.wire.specs.Codec.{unfit}
+use Rattle.replica.specs.Store.{store}
+use Rattle.replica.proofs.Accepting.{accepted}
+use Rattle.showing.specs.Boards.{board_of, standing}
+use Rattle.showing.specs.Spoken.{spoken, spelled}
+use Rattle.showing.specs.Showing.{lay_of, show_of}
+use Rattle.showing.proofs.Standing.{store_wide}
+use Rattle.showing.proofs.Filling.{all_drop, board_writable, board_few}
+use Rattle.showing.proofs.Telling.{show_refused, show_past, show_from}
+use Rattle.showing.proofs.output.write_out.Goals as goal
+
+pub returns-in_err-lent : goal.returns-in_err-lent
+returns-in_err-lent g c =
+    let p = err_from_is_err_and c.from_residual.result c.from_residual.ensures.1 in
+    rw (p.1, p.2) (show_refused c.args.replica.now c.args.number c.args.out.now g.K.Entry.bytes c.args.tables.now c.in_err-lent.field-0.0 c.in_err-lent.ensures)
+
+pub returns-in_default : goal.returns-in_default
+returns-in_default g c =
+    let b = g.K.Entry.bytes in
+    let lent = c.in_ok-lent.lent in
+    let n = c.args.number in
+    let out = c.args.out.now in
+    subst (λ p. (declined refusals.Number, out) ≡ show_of p.0 (store b p.1) n out)
+    (accepted b c.args.replica.now c.args.tables.now _ c.in_ok-lent.ensures).0
+    (show_past lent.replica.now n out (store b lent.tables.now) lent.long c.in_default.ensures)
+
+pub lay-requires-clause-few : goal.lay-requires-clause-few
+lay-requires-clause-few g c =
+    let lent = c.in_ok-lent.lent in
+    let t = store g.K.Entry.bytes lent.tables.now in
+    let rest = c.in-Some.ensures in
+    omega (arith, rest.0, ap length rest.1, length-drop c.args.number (board_of lent.replica.now t), board_few lent.replica.now t)
+
+pub lay-requires-clause-fit : goal.lay-requires-clause-fit
+lay-requires-clause-fit g c =
+    let b = g.K.Entry.bytes in
+    let w = g.K.Entry.WIDTH in
+    let law = g.met.K.Entry in
+    let m = c.in_ok-lent.lent.replica.now in
+    let tables = c.in_ok-lent.lent.tables.now in
+    let all = board_writable m (store b tables) w (store_wide b w tables (λ k. law.wide (b k) (law.sound k))) in
+    subst (AllByRecursion (λ s. unfit w (spoken s) ≡ None)) (sym c.in-Some.ensures.1) (all_drop _ c.args.number (board_of m (store b tables)) all)
+
+pub returns : goal.returns
+returns g c =
+    let b = g.K.Entry.bytes in
+    let lent = c.in_ok-lent.lent in
+    let rest = c.in-Some.rest in
+    let ss = standing rest.place rest.lent.replica.now (store b rest.lent.tables.now) in
+    let n = c.args.number in
+    let out = c.args.out.now in
+    c.lay.ensures
+    ∙ subst (λ p. lay_of n (map spelled ss) out ≡ show_of p.0 (store b p.1) n out)
+    (accepted b c.args.replica.now c.args.tables.now _ c.in_ok-lent.ensures).0
+    (show_from lent.replica.now n out (store b lent.tables.now) lent.long ss c.in-Some.ensures.0 c.in-Some.ensures.1)
