@@ -102,12 +102,7 @@ impl Entry for ShareOrder {
 
     fn column(&self, i: usize) -> Option<u32> {
         let (kind, from, to, amount) = self.fields();
-        match i {
-            0 => Some(u32::from(kind)),
-            1 => Some(u32::from(from)),
-            2 => Some(u32::from(to)),
-            3 => Some(amount),
-            _ => None,
-        }
+        let columns = [u32::from(kind), u32::from(from), u32::from(to), amount];
+        columns.get(i).copied()
     }
 }

@@ -72,12 +72,9 @@ impl Entry for Reading {
     }
 
     fn column(&self, i: usize) -> Option<u32> {
-        match i {
-            0 => Some(u32::from(self.house.number)),
-            1 => Some(u32::from(self.week)),
-            2 => Some(u32::from(u8::from(self.quantity))),
-            3 => Some(self.amount),
-            _ => None,
-        }
+        let house = u32::from(self.house.number);
+        let quantity = u32::from(u8::from(self.quantity));
+        let columns = [house, u32::from(self.week), quantity, self.amount];
+        columns.get(i).copied()
     }
 }
