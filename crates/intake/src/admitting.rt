@@ -4,10 +4,10 @@ ghost use Rattle.wire.specs.Statements.{message_of};
 ghost use Rattle.replica.specs.Claims.{claim_of};
 ghost use Rattle.intake.specs.Hearing.{admit_of};
 
-use crate::operands::{bit_vote, item_in, set_vote};
+use crate::operands::{bit_in, item_in, vote};
 use common::Refusal;
 use entry::Entry;
-use replica::{Claim, Replica};
+use replica::{Bits, Claim, Replica};
 use wire::Statement;
 
 // What a sender states, if it is in range, of the kind and of the current epoch.
@@ -36,19 +36,19 @@ pub fn admit<K: Entry>(
             Ok(Claim::Have { queue, slot, item })
         }
         Statement::Value { epoch, round, bit } => {
-            let bit = bit_vote(replica, epoch, round, bit)?;
+            let bit = vote(replica, epoch, round, bit_in(bit))?;
             Ok(Claim::Value { epoch, round, bit })
         }
         Statement::Seen { epoch, round, bit } => {
-            let bit = bit_vote(replica, epoch, round, bit)?;
+            let bit = vote(replica, epoch, round, bit_in(bit))?;
             Ok(Claim::Seen { epoch, round, bit })
         }
         Statement::Confirm { epoch, round, set } => {
-            let set = set_vote(replica, epoch, round, set)?;
+            let set = vote(replica, epoch, round, Bits::try_from(set).ok())?;
             Ok(Claim::Confirm { epoch, round, set })
         }
         Statement::Finish { epoch, bit } => {
-            let bit = bit_vote(replica, epoch, 0, bit)?;
+            let bit = vote(replica, epoch, 0, bit_in(bit))?;
             Ok(Claim::Finish { epoch, bit })
         }
     }

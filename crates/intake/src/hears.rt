@@ -20,9 +20,7 @@ fn judge<K: Entry>(
 ) -> Result<Claim<K>, Refusal>
     ensures { answered (claim_of K.bytes) result ≡ judge_of K.WIDTH K.valid replica.now (store K.bytes tables.now) sender s.now }
 {
-    if !tables.fit(replica.set.grid()) {
-        return Err(Refusal::Table);
-    }
+    replica.fitted(tables)?;
     if sender >= replica.set.n || sender == replica.set.me {
         return Err(Refusal::Sender);
     }

@@ -1,12 +1,12 @@
 // Operands of a statement: in range, and what they are.
 ghost use Rattle.std.specs.Prelude.{◌≡◌};
 ghost use Rattle.common.specs.Refusals.{answered, numbered};
-ghost use Rattle.votes.specs.Sets.{bits_of, set_numbered};
 ghost use Rattle.intake.specs.Hearing.{bit_numbered, item_of, timely_of, vote_of};
 
 use common::{EPOCHS, ROUNDS, Refusal};
 use entry::Entry;
-use replica::{Bits, Replica};
+use replica::Replica;
+use std::cmp::Ordering;
 
 // The bit that an operand is.
 pub fn bit_in(b: u8) -> Option<bool>
@@ -26,10 +26,7 @@ pub fn item_in<K: Entry>(replica: &Replica, queue: u8, slot: u8, item: &[u8]) ->
     if queue >= replica.set.n || slot >= replica.set.w {
         return Err(Refusal::Range);
     }
-    let Some(item) = K::read(item) else {
-        return Err(Refusal::Entry);
-    };
-    Ok(item)
+    K::read(item).ok_or(Refusal::Entry)
 }
 
 // Whether a vote is for a round of the current epoch.
@@ -39,31 +36,23 @@ pub fn timely(replica: &Replica, epoch: u16, round: u8) -> Result<(), Refusal>
     if round >= ROUNDS || epoch >= EPOCHS {
         return Err(Refusal::Range);
     }
-    if epoch < replica.epoch {
-        return Err(Refusal::Past);
+    match epoch.cmp(&replica.epoch) {
+        Ordering::Less => Err(Refusal::Past),
+        Ordering::Equal => Ok(()),
+        Ordering::Greater => Err(Refusal::Future),
     }
-    if epoch > replica.epoch {
-        return Err(Refusal::Future);
-    }
-    Ok(())
 }
 
-// The bit of a vote.
-pub fn bit_vote(replica: &Replica, epoch: u16, round: u8, bit: u8) -> Result<bool, Refusal>
-    ensures { numbered result ≡ vote_of replica.now epoch round (bit_numbered bit) }
+// What a vote's operand is, where it is one and the vote is for a round of the current epoch.
+pub fn vote<T: Copy>(
+    replica: &Replica,
+    epoch: u16,
+    round: u8,
+    operand: Option<T>,
+) -> Result<T, Refusal>
+    ensures { numbered result ≡ vote_of replica.now epoch round operand }
 {
-    let Some(bit) = bit_in(bit) else {
-        return Err(Refusal::Range);
-    };
+    let operand = operand.ok_or(Refusal::Range)?;
     timely(replica, epoch, round)?;
-    Ok(bit)
-}
-
-// The set of a vote.
-pub fn set_vote(replica: &Replica, epoch: u16, round: u8, set: u8) -> Result<Bits, Refusal>
-    ensures { answered bits_of result ≡ vote_of replica.now epoch round (set_numbered set) }
-{
-    let set = Bits::try_from(set)?;
-    timely(replica, epoch, round)?;
-    Ok(set)
+    Ok(operand)
 }

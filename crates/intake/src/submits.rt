@@ -32,21 +32,15 @@ fn unused<K: Entry>(replica: &Replica, tables: &Tables<'_, K>) -> Option<u8>
 fn offer<K: Entry>(replica: &Replica, tables: &Tables<'_, K>, s: &[u8]) -> Result<Claim<K>, Refusal>
     ensures { answered (claim_of K.bytes) result ≡ offer_of K.WIDTH K.valid replica.now (store K.bytes tables.now) s.now }
 {
-    if !tables.fit(replica.set.grid()) {
-        return Err(Refusal::Table);
-    }
+    replica.fitted(tables)?;
     if s.len() < K::WIDTH {
         return Err(Refusal::Short);
     }
     if s.len() > K::WIDTH {
         return Err(Refusal::Long);
     }
-    let Some(item) = K::read(s) else {
-        return Err(Refusal::Entry);
-    };
-    let Some(slot) = unused(replica, tables) else {
-        return Err(Refusal::Full);
-    };
+    let item = K::read(s).ok_or(Refusal::Entry)?;
+    let slot = unused(replica, tables).ok_or(Refusal::Full)?;
     if replica.booked(tables, &item) {
         return Err(Refusal::Booked);
     }
