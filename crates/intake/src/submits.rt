@@ -10,6 +10,7 @@ ghost use Rattle.intake.specs.Submitting.{unused_of, offer_of, submit_of, Submit
 use common::Refusal;
 use entry::Entry;
 use replica::{Claim, Replica, Tables};
+use wire::measure;
 
 // Whether a slot of the own queue has no own send.
 fn is_unused<K: Entry>(replica: &Replica, tables: &Tables<'_, K>, slot: u8) -> bool
@@ -33,12 +34,7 @@ fn offer<K: Entry>(replica: &Replica, tables: &Tables<'_, K>, s: &[u8]) -> Resul
     ensures { answered (claim_of K.bytes) result ≡ offer_of K.WIDTH K.valid replica.now (store K.bytes tables.now) s.now }
 {
     replica.fitted(tables)?;
-    if s.len() < K::WIDTH {
-        return Err(Refusal::Short);
-    }
-    if s.len() > K::WIDTH {
-        return Err(Refusal::Long);
-    }
+    measure(s, K::WIDTH)?;
     let item = K::read(s).ok_or(Refusal::Entry)?;
     let slot = unused(replica, tables).ok_or(Refusal::Full)?;
     if replica.booked(tables, &item) {

@@ -12,7 +12,7 @@ use Rattle.cells.specs.Rows.{Cells, slot_of, place_of}
 use Rattle.cells.proofs.Cellrows.{place_within}
 use Rattle.replica.specs.declared.state.Replica.{Replica}
 use Rattle.replica.specs.View.{held, row_cell, vote_cell}
-use Rattle.replica.specs.Holding.{entered, marked, with_votes}
+use Rattle.replica.specs.Holding.{entered, round_marked, with_votes}
 
 pub held_same : {A : Type 0} (b : Bool) (o u : Option A) → (b ≡ true → o ≡ u) → held b o ≡ held b u
 held_same true o u h = h refl
@@ -61,18 +61,18 @@ module _ {A : Type 0} (m : Replica) (k : ℕ) (f : Round → Round) (read : Roun
   table = m.votes.rounds
 
   pub vote_own : (e j : ℕ) (x : A) → k < length table → (ltb j m.set.n && (ltb k rounds && (ltb e epochs && eqb e m.epoch))) ≡ true → read (f (get_or table k no_round)) ≡ Some x
-      → vote_cell (with_votes m (marked m.votes k f)) read st e k j ≡ Some (st x)
+      → vote_cell (with_votes m (round_marked m.votes k f)) read st e k j ≡ Some (st x)
   vote_own e j x l g h = rw (g, get_or-set_same table k (f (get_or table k no_round)) no_round l, h)
 
-  pub vote_other : (e a i : ℕ) → (e ≡ m.epoch → a ≡ k → (r : Round) → read (f r) ≡ read r) → vote_cell (with_votes m (marked m.votes k f)) read st e a i ≡ vote_cell m read st e a i
+  pub vote_other : (e a i : ℕ) → (e ≡ m.epoch → a ≡ k → (r : Round) → read (f r) ≡ read r) → vote_cell (with_votes m (round_marked m.votes k f)) read st e a i ≡ vote_cell m read st e a i
   vote_other e a i stays = held_same _ _ _ (λ g.
       let p = and_parts (ltb e epochs) _ (and_parts (ltb a rounds) _ (and_parts (ltb i m.set.n) _ g).1).1 in
       ap (option_map st) (at (eqb-true e m.epoch p.1) (cases_eq a k)))
     where
-      at : e ≡ m.epoch → (a ≡ k) ⊎ (a ≡ k → ⊥) → read (get_or ((marked m.votes k f).rounds) a no_round) ≡ read (get_or table a no_round)
+      at : e ≡ m.epoch → (a ≡ k) ⊎ (a ≡ k → ⊥) → read (get_or ((round_marked m.votes k f).rounds) a no_round) ≡ read (get_or table a no_round)
       at h (inl e) = rw e (here (cases_lt k (length table)))
         where
-          here : (k < length table) ⊎ (length table ≤ k) → read (get_or ((marked m.votes k f).rounds) k no_round) ≡ read (get_or table k no_round)
+          here : (k < length table) ⊎ (length table ≤ k) → read (get_or ((round_marked m.votes k f).rounds) k no_round) ≡ read (get_or table k no_round)
           here (inl l) = ap read (get_or-set_same table k (f (get_or table k no_round)) no_round l) ∙ stays h e (get_or table k no_round)
-          here (inr l) = ap read (get_or_past ((marked m.votes k f).rounds) k no_round (simp length-set (omega arith)) ∙ sym (get_or_past table k no_round l))
+          here (inr l) = ap read (get_or_past ((round_marked m.votes k f).rounds) k no_round (simp length-set (omega arith)) ∙ sym (get_or_past table k no_round l))
       at h (inr n) = ap read (get_or-set_other table k a (f (get_or table k no_round)) no_round n)

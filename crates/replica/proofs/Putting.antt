@@ -19,7 +19,7 @@ use Rattle.cells.specs.Rows.{Cells, slot_of, place_of}
 use Rattle.replica.specs.declared.state.Replica.{Replica}
 use Rattle.replica.specs.Store.{Store, fits}
 use Rattle.replica.specs.View.{held, row_cell, value_in, vote_cell, view, plan, box}
-use Rattle.replica.specs.Holding.{Sized, with_values, with_seens, with_confirms, entered, held_of}
+use Rattle.replica.specs.Holding.{Sized, values_marked, seens_marked, confirms_marked, entered, held_of}
 use Rattle.replica.proofs.Placing.{send_own, send_other, row_own, row_other, vote_own, vote_other}
 
 -- the tables are long enough
@@ -129,12 +129,12 @@ module _ (m : Replica) (t : Store) (j : ℕ) (sized : Sized m) (lent : fits m.se
   own (ready q s x) r free = let p = and_parts _ _ r in row_own m.set.n m.set.w t.readies j q s x ready lj (ltb-true q _ p.0) (ltb-true s _ p.1) long.readies
   own (have q s x) r free = let p = and_parts _ _ r in row_own m.set.n m.set.w t.haves j q s x have lj (ltb-true q _ p.0) (ltb-true s _ p.1) long.haves
   own (value e k v) r free =
-      vote_own m k (with_values (λ p. mark p v j)) (λ x. value_in v j x.values) (value e k) e j v (in_round k m.votes.rounds sized.long (and_parts (ltb k rounds) _ r).0) (guard k e r) (rw (marks_own (get_or m.votes.rounds k no_round).values v j) refl)
+      vote_own m k (values_marked (λ p. mark p v j)) (λ x. value_in v j x.values) (value e k) e j v (in_round k m.votes.rounds sized.long (and_parts (ltb k rounds) _ r).0) (guard k e r) (rw (marks_own (get_or m.votes.rounds k no_round).values v j) refl)
   own (seen e k v) r free =
-      vote_own m k (with_seens (λ p. mark p v j)) (λ x. bit_of x.seens j) (seen e k) e j v (in_round k m.votes.rounds sized.long (and_parts (ltb k rounds) _ r).0) (guard k e r)
+      vote_own m k (seens_marked (λ p. mark p v j)) (λ x. bit_of x.seens j) (seen e k) e j v (in_round k m.votes.rounds sized.long (and_parts (ltb k rounds) _ r).0) (guard k e r)
       (bit_own (get_or m.votes.rounds k no_round).seens v j (free_round (λ x. bit_of x.seens j) (seen e k) k e r free))
   own (confirm e k u) r free =
-      vote_own m k (with_confirms (λ p. with_set p (in_set u false) (in_set u true) j)) (λ x. set_for x.confirms j) (confirm e k) e j u (in_round k m.votes.rounds sized.long (and_parts (ltb k rounds) _ r).0) (guard k e r)
+      vote_own m k (confirms_marked (λ p. with_set p (in_set u false) (in_set u true) j)) (λ x. set_for x.confirms j) (confirm e k) e j u (in_round k m.votes.rounds sized.long (and_parts (ltb k rounds) _ r).0) (guard k e r)
       (set_own (get_or m.votes.rounds k no_round).confirms (in_set u false) (in_set u true) j (free_round (λ x. set_for x.confirms j) (confirm e k) k e r free) ∙ set_in u)
   own (finish e v) r free =
       let p = and_parts (ltb e epochs) _ r in
@@ -165,23 +165,23 @@ module _ (m : Replica) (t : Store) (j : ℕ) (sized : Sized m) (lent : fits m.se
       (λ b h. refl) (λ a b h. refl) (λ a b h. refl) (row_else have at_have t.haves q s x r i c ne) (λ a b v h. refl) (λ a b h. refl) (λ a b h. refl) (λ a h. refl)
   other (value e k v) r i c ne = by_letter (λ d. view (held_of m t j (value e k v)).0 t i d ≡ view m t i d) c
       (λ b h. refl) (λ a b h. refl) (λ a b h. refl) (λ a b h. refl)
-      (λ a b u h. vote_other m k (with_values (λ p. mark p v j)) (λ x. value_in u i x.values) (value a b) a b i (λ now here x.
+      (λ a b u h. vote_other m k (values_marked (λ p. mark p v j)) (λ x. value_in u i x.values) (value a b) a b i (λ now here x.
       ap (λ y. held y (Some u)) (value_other x.values v j i u (λ same. ne (same.0, at_vote (λ y z. at_value y z v) e k r c a b (h ∙ ap (at_value a b) same.1) now here)))))
-      (λ a b h. vote_other m k (with_values (λ p. mark p v j)) (λ x. bit_of x.seens i) (seen a b) a b i (λ now here x. refl))
-      (λ a b h. vote_other m k (with_values (λ p. mark p v j)) (λ x. set_for x.confirms i) (confirm a b) a b i (λ now here x. refl))
+      (λ a b h. vote_other m k (values_marked (λ p. mark p v j)) (λ x. bit_of x.seens i) (seen a b) a b i (λ now here x. refl))
+      (λ a b h. vote_other m k (values_marked (λ p. mark p v j)) (λ x. set_for x.confirms i) (confirm a b) a b i (λ now here x. refl))
       (λ a h. refl)
   other (seen e k v) r i c ne = by_letter (λ d. view (held_of m t j (seen e k v)).0 t i d ≡ view m t i d) c
       (λ b h. refl) (λ a b h. refl) (λ a b h. refl) (λ a b h. refl)
-      (λ a b u h. vote_other m k (with_seens (λ p. mark p v j)) (λ x. value_in u i x.values) (value a b) a b i (λ now here x. refl))
-      (λ a b h. vote_other m k (with_seens (λ p. mark p v j)) (λ x. bit_of x.seens i) (seen a b) a b i (λ now here x.
+      (λ a b u h. vote_other m k (seens_marked (λ p. mark p v j)) (λ x. value_in u i x.values) (value a b) a b i (λ now here x. refl))
+      (λ a b h. vote_other m k (seens_marked (λ p. mark p v j)) (λ x. bit_of x.seens i) (seen a b) a b i (λ now here x.
       bit_other x.seens (not v) v j i (λ same. ne (same, at_vote at_seen e k r c a b h now here))))
-      (λ a b h. vote_other m k (with_seens (λ p. mark p v j)) (λ x. set_for x.confirms i) (confirm a b) a b i (λ now here x. refl))
+      (λ a b h. vote_other m k (seens_marked (λ p. mark p v j)) (λ x. set_for x.confirms i) (confirm a b) a b i (λ now here x. refl))
       (λ a h. refl)
   other (confirm e k u) r i c ne = by_letter (λ d. view (held_of m t j (confirm e k u)).0 t i d ≡ view m t i d) c
       (λ b h. refl) (λ a b h. refl) (λ a b h. refl) (λ a b h. refl)
-      (λ a b v h. vote_other m k (with_confirms (λ p. with_set p (in_set u false) (in_set u true) j)) (λ x. value_in v i x.values) (value a b) a b i (λ now here x. refl))
-      (λ a b h. vote_other m k (with_confirms (λ p. with_set p (in_set u false) (in_set u true) j)) (λ x. bit_of x.seens i) (seen a b) a b i (λ now here x. refl))
-      (λ a b h. vote_other m k (with_confirms (λ p. with_set p (in_set u false) (in_set u true) j)) (λ x. set_for x.confirms i) (confirm a b) a b i (λ now here x.
+      (λ a b v h. vote_other m k (confirms_marked (λ p. with_set p (in_set u false) (in_set u true) j)) (λ x. value_in v i x.values) (value a b) a b i (λ now here x. refl))
+      (λ a b h. vote_other m k (confirms_marked (λ p. with_set p (in_set u false) (in_set u true) j)) (λ x. bit_of x.seens i) (seen a b) a b i (λ now here x. refl))
+      (λ a b h. vote_other m k (confirms_marked (λ p. with_set p (in_set u false) (in_set u true) j)) (λ x. set_for x.confirms i) (confirm a b) a b i (λ now here x.
       set_other x.confirms (in_set u false) (in_set u true) j i (λ same. ne (same, at_vote at_confirm e k r c a b h now here))))
       (λ a h. refl)
   other (finish e v) r i c ne = by_letter (λ d. view (held_of m t j (finish e v)).0 t i d ≡ view m t i d) c
@@ -214,7 +214,7 @@ sized_held m t j (sends s x) z = z
 sized_held m t j (echo q s x) z = z
 sized_held m t j (ready q s x) z = z
 sized_held m t j (have q s x) z = z
-sized_held m t j (value e k v) z = record { long = length-set m.votes.rounds k (with_values (λ p. mark p v j) (get_or m.votes.rounds k no_round)) ∙ z.long }
-sized_held m t j (seen e k v) z = record { long = length-set m.votes.rounds k (with_seens (λ p. mark p v j) (get_or m.votes.rounds k no_round)) ∙ z.long }
-sized_held m t j (confirm e k u) z = record { long = length-set m.votes.rounds k (with_confirms (λ p. with_set p (in_set u false) (in_set u true) j) (get_or m.votes.rounds k no_round)) ∙ z.long }
+sized_held m t j (value e k v) z = record { long = length-set m.votes.rounds k (values_marked (λ p. mark p v j) (get_or m.votes.rounds k no_round)) ∙ z.long }
+sized_held m t j (seen e k v) z = record { long = length-set m.votes.rounds k (seens_marked (λ p. mark p v j) (get_or m.votes.rounds k no_round)) ∙ z.long }
+sized_held m t j (confirm e k u) z = record { long = length-set m.votes.rounds k (confirms_marked (λ p. with_set p (in_set u false) (in_set u true) j) (get_or m.votes.rounds k no_round)) ∙ z.long }
 sized_held m t j (finish e v) z = record { long = z.long }

@@ -57,21 +57,21 @@ abbrev pub with_finish : Votes → Marks → Votes
 with_finish v p = record { rounds = v.rounds; finish = p }
 
 -- a round in which the values, the seens or the confirms are marked as well
-abbrev pub with_values : (Marks → Marks) → Round → Round
-with_values f r = record { values = f r.values; seens = r.seens; confirms = r.confirms }
+abbrev pub values_marked : (Marks → Marks) → Round → Round
+values_marked f r = record { values = f r.values; seens = r.seens; confirms = r.confirms }
 
-abbrev pub with_seens : (Marks → Marks) → Round → Round
-with_seens f r = record { values = r.values; seens = f r.seens; confirms = r.confirms }
+abbrev pub seens_marked : (Marks → Marks) → Round → Round
+seens_marked f r = record { values = r.values; seens = f r.seens; confirms = r.confirms }
 
-abbrev pub with_confirms : (Marks → Marks) → Round → Round
-with_confirms f r = record { values = r.values; seens = r.seens; confirms = f r.confirms }
+abbrev pub confirms_marked : (Marks → Marks) → Round → Round
+confirms_marked f r = record { values = r.values; seens = r.seens; confirms = f r.confirms }
 
 -- an entry is held at a place; round k is marked as well
 abbrev pub entered : Cells → ℕ → List ℕ → Cells
 entered cells at x = slice_set cells at (Some x)
 
-abbrev pub marked : Votes → ℕ → (Round → Round) → Votes
-marked v k f = with_rounds v (slice_set v.rounds k (f (slice_index_or v.rounds k no_round)))
+abbrev pub round_marked : Votes → ℕ → (Round → Round) → Votes
+round_marked v k f = with_rounds v (slice_set v.rounds k (f (slice_index_or v.rounds k no_round)))
 
 -- sender j's statement is held: one cell is filled, and no other is altered
 abbrev pub held_of : Replica → Store → ℕ → Stmt (List ℕ) → Replica × Store
@@ -79,9 +79,9 @@ held_of m t j (sends s x) = (m, with_sends t (entered t.sends (slot_of m.set.w j
 held_of m t j (echo q s x) = (m, with_echoes t (entered t.echoes (place_of m.set.n m.set.w q s j) x))
 held_of m t j (ready q s x) = (m, with_readies t (entered t.readies (place_of m.set.n m.set.w q s j) x))
 held_of m t j (have q s x) = (m, with_haves t (entered t.haves (place_of m.set.n m.set.w q s j) x))
-held_of m t j (value e k v) = (with_votes m (marked m.votes k (with_values (λ p. mark p v j))), t)
-held_of m t j (seen e k v) = (with_votes m (marked m.votes k (with_seens (λ p. mark p v j))), t)
-held_of m t j (confirm e k u) = (with_votes m (marked m.votes k (with_confirms (λ p. with_set p (in_set u false) (in_set u true) j))), t)
+held_of m t j (value e k v) = (with_votes m (round_marked m.votes k (values_marked (λ p. mark p v j))), t)
+held_of m t j (seen e k v) = (with_votes m (round_marked m.votes k (seens_marked (λ p. mark p v j))), t)
+held_of m t j (confirm e k u) = (with_votes m (round_marked m.votes k (confirms_marked (λ p. with_set p (in_set u false) (in_set u true) j))), t)
 held_of m t j (finish e v) = (with_votes m (with_finish m.votes (mark m.votes.finish v j)), t)
 
 -- In the theory's words: where the cell was free, the box has heard the statement.

@@ -29,6 +29,10 @@ abbrev pub parse_of : ℕ → List ℕ → Result Message ℕ
 parse_of w [] = declined refusals.Short
 parse_of w (b ∷ s) = whole_of w (b ∷ s) (letter_of b)
 
+-- there are as many bytes as wanted
+abbrev pub measured : ℕ → List ℕ → Result (Unit {0}) ℕ
+measured n s = cond (nat_lt (length s) n) (declined refusals.Short) (cond (nat_lt n (length s)) (declined refusals.Long) (Ok tt))
+
 -- the entry is too short or too long for its kind
 abbrev pub misfit : ℕ → List ℕ → Option ℕ
 misfit w x = cond (nat_lt (length x) w) (Some (number_of refusals.Short)) (cond (nat_lt w (length x)) (Some (number_of refusals.Long)) None)

@@ -5,6 +5,7 @@
 #![tactic(auto)]
 
 mod frame;
+mod lengths;
 mod letter;
 mod letters;
 mod parser;
@@ -16,6 +17,7 @@ mod steps;
 mod writer;
 
 pub use frame::next;
+pub use lengths::measure;
 pub use letter::Letter;
 pub use parser::parse;
 pub use part::{Fault, Part};

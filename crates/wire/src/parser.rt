@@ -4,6 +4,7 @@ ghost use Rattle.wire.specs.Letters.{length_of};
 ghost use Rattle.wire.specs.Statements.{message_of};
 ghost use Rattle.wire.specs.Codec.{read_of, parse_of, placed, write_of};
 
+use crate::lengths::measure;
 use crate::letter::Letter;
 use crate::statement::Statement;
 use common::Refusal;
@@ -18,13 +19,7 @@ pub fn parse<K: Entry>(s: &[u8]) -> Result<Statement<'_>, Refusal>
         return Err(Refusal::Short);
     }
     let letter = Letter::try_from(s[0])?;
-    let n = letter.length::<K>();
-    if s.len() < n {
-        return Err(Refusal::Short);
-    }
-    if s.len() > n {
-        return Err(Refusal::Long);
-    }
+    measure(s, letter.length::<K>())?;
     Ok(operands::<K>(letter, s))
 }
 

@@ -3,6 +3,7 @@ ghost use Rattle.common.specs.Refusals.{numbered};
 ghost use Rattle.wire.specs.Statements.{message_of};
 ghost use Rattle.wire.specs.Codec.{misfit, oversize, placed, write_of, parse_of};
 
+use crate::lengths::measure;
 use crate::statement::Statement;
 use common::Refusal;
 use entry::Entry;
@@ -40,12 +41,7 @@ impl Statement<'_> {
 fn put_item<K: Entry>(head: &[u8], item: &[u8], out: &mut [u8]) -> Result<usize, Refusal>
     ensures { (numbered result, out.new) ≡ placed (misfit K.WIDTH item.now) (head.now ++ item.now) out.old }
 {
-    if item.len() < K::WIDTH {
-        return Err(Refusal::Short);
-    }
-    if item.len() > K::WIDTH {
-        return Err(Refusal::Long);
-    }
+    measure(item, K::WIDTH)?;
     put_both(head, item, out)
 }
 
