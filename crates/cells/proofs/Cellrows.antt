@@ -1,9 +1,10 @@
 -- One slot's row of cells.
-use Rattle.std.proofs.Common.{◌≡◌, ℕ, zero, suc, ◌+◌, ◌*◌, ◌<◌, ◌≤◌, leb, List, [], ◌∷◌, ◌++◌, map, length, get_or, set, take, drop, replicate, Some, None, Option, sym, refl, ap, ◌∙◌, arith}
+use Rattle.std.proofs.Common.{◌≡◌, ℕ, zero, suc, ◌+◌, ◌*◌, ◌<◌, ◌≤◌, leb, List, ◌∷◌, ◌++◌, map, length, get_or, take, drop, replicate, Some, None, Option, sym, refl, ap, ◌∙◌, arith}
 use mathlib.Core.List.{map-append}
 use Rattle.std.specs.Option.{option_map}
+use Rattle.std.proofs.Math.ListN as ListN
 use Rattle.std.proofs.lemmas.Bool.{le-leb, lt-leb}
-use Rattle.std.proofs.lemmas.List.{get_or-map, map-set, take-map, drop-map}
+use Rattle.std.proofs.lemmas.List.{get_or-map, take-map, drop-map}
 use Rattle.std.proofs.lemmas.Nat.{mul-add-lt}
 use Rattle.theory.specs.Search.{bind, guard}
 use Rattle.cells.specs.Rows.{Cells, place_of, part, emptied, standing}
@@ -44,9 +45,4 @@ map_emptied f n cells = map-append (option_map f) (replicate n None) (drop n cel
 
 -- a cell of the bytes is the bytes of the cell, also past the end
 pub map_read : {A B : Type 0} (f : A → B) (cells : List (Option A)) (i : ℕ) → get_or (map (option_map f) cells) i None ≡ option_map f (get_or cells i None)
-map_read f [] i = refl
-map_read f (o ∷ cells) zero = refl
-map_read f (o ∷ cells) (suc i) = map_read f cells i
-
-pub map_held : {A B : Type 0} (f : A → B) (cells : List (Option A)) (i : ℕ) (x : A) → map (option_map f) (set cells i (Some x)) ≡ set (map (option_map f) cells) i (Some (f x))
-map_held f cells i x = map-set (option_map f) cells i (Some x)
+map_read f cells i = ListN.get_or-map (option_map f) cells i None

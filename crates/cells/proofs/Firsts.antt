@@ -1,7 +1,6 @@
 -- Searches and counts from the lowest place up, step by step.
-use Rattle.std.proofs.Common.{◌≡◌, ℕ, zero, suc, ◌+◌, ◌<◌, Bool, true, false, cond, ◌⊎◌, Some, None, Option, refl, inl, inr, add-one, arith}
+use Rattle.std.proofs.Common.{◌≡◌, ℕ, zero, suc, ◌+◌, ◌<◌, ◌⊎◌, Some, None, Option, refl, inl, inr, add-one, arith}
 use Rattle.std.proofs.lemmas.Bool.{cases_order}
-use Rattle.theory.specs.Count.{count}
 use Rattle.theory.specs.Search.{or_else, first}
 
 module _ {A : Type 0} (g : ℕ → Option A) where
@@ -22,8 +21,3 @@ module _ {A : Type 0} (g : ℕ → Option A) where
       at (inl eq) ih = rw (← eq, e, h)
       at (inr (inl less)) ih = rw (ih less e h)
       at (inr (inr more)) ih = absurd (omega arith)
-
--- one more in a count
-pub count_next : (n : ℕ) (p : ℕ → Bool) (m : ℕ) (t : Bool) → m ≡ count n p → t ≡ p n → m + cond t 1 0 ≡ count (n + 1) p
-count_next n p m true e h = rw (add-one n, ← h) (omega arith)
-count_next n p m false e h = rw (add-one n, ← h) (omega arith)

@@ -1,13 +1,11 @@
 -- The book: the pages up to the first empty cell.
-use Rattle.std.proofs.lemmas.Bool.Decides.{same_from_decides}
-use Rattle.std.proofs.Common.{◌≡◌, ℕ, zero, suc, ◌+◌, ◌<◌, ◌≤◌, Bool, true, false, ◌||◌, ◌⊎◌, List, [], ◌∷◌, map, length, get_or, take, drop, Some, None, Decides, Option, sym, refl, ap, ◌∙◌, inl, inr, arith}
+use Rattle.std.proofs.Common.{◌≡◌, ℕ, zero, suc, ◌<◌, ◌≤◌, Bool, true, ◌⊎◌, List, [], ◌∷◌, map, length, get_or, take, drop, Some, None, Option, sym, refl, ap, ◌∙◌, inl, inr, arith}
 use Rattle.std.specs.List.{slice_get}
 use Rattle.std.proofs.lemmas.Bool.{cases_lt}
 use Rattle.std.specs.Option.{option_map}
-use Rattle.std.proofs.lemmas.List.{get_or-take, get_or_past, length-take, drop_all, drop_more, take-map}
+use Rattle.std.proofs.lemmas.List.{get_or-take, get_or_past, length-take, take-map}
 use Rattle.replica.specs.declared.lent.Page as declared
 use Rattle.replica.specs.declared.lent.Tables.{Tables}
-use Rattle.theory.specs.Statement.{decided}
 use Rattle.theory.specs.Book.{stands_in_book}
 use Rattle.replica.specs.declared.state.Replica.{Replica}
 use Rattle.replica.specs.Store.{Store, fits, paged, store}
@@ -28,29 +26,10 @@ lead_end [] = refl
 lead_end (None ∷ ps) = refl
 lead_end (Some q ∷ ps) = lead_end ps
 
-decided_decides : {A : Type 0} (d : Dec A) → Decides (decided d) A
-decided_decides (yes a) = ((λ _. a), (λ _. refl))
-decided_decides (no n) = ((λ e. absurd (let z : ◌≡◌ {A = Bool} true false = sym e in cc)), (λ a. absurd (n a)))
-
-told_same : (r : Bool) (a b : List ℕ) → Decides r (a ≡ b) → same_bytes a b ≡ r
-told_same r a b d = same_from_decides (same_bytes a b) r (decided_decides _) d
-
 -- whether an entry is on the pages from cell i on
 module _ {K : Type 0} (b : K → List ℕ) (cells : List (Option (declared.Page K))) (x : List ℕ) where
   abbrev pub left : ℕ → Bool
   left i = stands_in_book same_bytes (leading (map (option_map (paged b)) (drop i cells))) x
-
-  left_at : (i : ℕ) (cell o : Option (declared.Page K)) → i < length cells → cell ≡ get_or cells i cell → cell ≡ o → left i ≡ stands_in_book same_bytes (leading (option_map (paged b) o ∷ map (option_map (paged b)) (drop (i + 1) cells))) x
-  left_at i cell o h e is = ap (λ l. stands_in_book same_bytes (leading (map (option_map (paged b)) l)) x) (drop_more cells i cell h ∙ ap (λ y. y ∷ drop (i + 1) cells) (sym e ∙ is))
-
-  pub left_none : (i : ℕ) (cell : Option (declared.Page K)) → i < length cells → cell ≡ get_or cells i cell → cell ≡ None → left i ≡ false
-  left_none i cell h e is = left_at i cell None h e is
-
-  pub left_some : (i : ℕ) (cell : Option (declared.Page K)) (p : declared.Page K) (r : Bool) → i < length cells → cell ≡ get_or cells i cell → cell ≡ Some p → Decides r (b p.item ≡ x) → left i ≡ (r || left (i + 1))
-  left_some i cell p r h e is t = left_at i cell (Some p) h e is ∙ ap (λ q. q || left (i + 1)) (told_same r (b p.item) x t)
-
-  pub left_end : (i : ℕ) → length cells ≤ i → left i ≡ false
-  left_end i h = ap (λ l. stands_in_book same_bytes (leading (map (option_map (paged b)) l)) x) (drop_all i cells h)
 
 -- the book, in the cells that the replica counts
 pub book_is : {K : Type 0} (b : K → List ℕ) (m : Replica) (t : Tables K) (cells : List (Option (declared.Page K))) → cells ≡ take m.pages t.pages → leading (map (option_map (paged b)) cells) ≡ book_of m (store b t)

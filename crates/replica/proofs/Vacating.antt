@@ -1,17 +1,16 @@
 -- A cell in sight: what is settled by what the tables and votes hold there.
-use Rattle.std.proofs.Common.{◌≡◌, ℕ, ◌<◌, Bool, true, false, ◌↔◌, ltb, eqb, get_or, List, Some, None, Option, sym, refl, ap, ◌∙◌}
+use Rattle.std.proofs.Common.{◌≡◌, ℕ, ◌<◌, Bool, true, false, ◌↔◌, ◌&&◌, ltb, map, get_or, List, Some, None, Option, sym, refl, ap, ◌∙◌}
 use mathlib.Core.Bool.{beq}
 use Rattle.std.specs.Option.{option_map}
-use Rattle.std.proofs.lemmas.Bool.{lt-ltb, and_parts, and_from, cond-true}
-use Rattle.common.specs.Limits.{epochs}
-use Rattle.theory.specs.Statement.{only, Stmt, sends, echo, ready, have, seen, confirm, finish, StmtEq, decided}
+use Rattle.std.proofs.lemmas.Bool.{lt-ltb, and_from, cond-true}
+use Rattle.theory.specs.Statement.{only, Stmt, confirm, StmtEq, decided}
 use Rattle.theory.specs.Calls.{ranged}
 use Rattle.votes.specs.contracts.bits.BitsPartialEq.TheImpl as sets
 use Rattle.votes.specs.declared.bits.Bits.{Bits}
 use Rattle.votes.specs.declared.bits.Bits.TheVariants.{Only, Both}
 use Rattle.votes.specs.Sets.{bits_of}
-use Rattle.votes.specs.Votes.{no_round, bit_of, set_for}
-use Rattle.cells.specs.Rows.{slot_of, place_of}
+use Rattle.votes.specs.Votes.{no_round, set_for}
+use Rattle.cells.proofs.Cellrows.{map_read}
 use Rattle.replica.specs.declared.state.Replica.{Replica}
 use Rattle.replica.specs.Store.{Store}
 use Rattle.replica.specs.View.{held, plan, box, bytes_same}
@@ -61,36 +60,16 @@ settled_at eq st told guard g o there is x =
     ∙ ap (λ p. settled (StmtEq bytes_same) p (st x)) (is ∙ sym (cond-true guard there None g))
 
 module _ (m : Replica) (t : Store) (j : ℕ) (lj : j < m.set.n) where
-  pub seen_vacant : (e k : ℕ) (v : Bool) (o : Option Bool) → ranged (plan m) (box m t) (seen e k v) ≡ true → o ≡ bit_of (get_or m.votes.rounds k no_round).seens j → settled_by beq o v ≡ vacant_of m t j (seen e k v)
-  seen_vacant e k v o r is =
-      settled_at beq (seen e k) (carried_told beq (λ x. x) (seen e k) bits_told (λ x y h. cc)) _ (and_from _ _ (lt-ltb j m.set.n lj) r) o _ (ap (option_map (seen e k)) is) v
-
   pub confirm_vacant : (e k : ℕ) (u : Bits) (o : Option Bits) → ranged (plan m) (box m t) (confirm e k (bits_of u)) ≡ true → option_map bits_of o ≡ set_for (get_or m.votes.rounds k no_round).confirms j → settled_by sets.eq-value.it o u ≡ vacant_of m t j (confirm e k (bits_of u))
   confirm_vacant e k u o r is =
       settled_at sets.eq-value.it (λ x. confirm e k (bits_of x)) (carried_told sets.eq-value.it bits_of (confirm e k) sets_told (λ x y h. cc)) _ (and_from _ _ (lt-ltb j m.set.n lj) r) o _
       (carried bits_of (confirm e k) o ∙ ap (option_map (confirm e k)) is) u
 
-  pub finish_vacant : (e : ℕ) (v : Bool) (o : Option Bool) → ranged (plan m) (box m t) (finish e v) ≡ true → o ≡ bit_of m.votes.finish j → settled_by beq o v ≡ vacant_of m t j (finish e v)
-  finish_vacant e v o r is =
-      let p = and_parts (ltb e epochs) (eqb e m.epoch) r in
-      settled_at beq (finish e) (carried_told beq (λ x. x) (finish e) bits_told (λ x y h. cc)) true refl o _
-      (ap (option_map (finish e)) (is ∙ sym (cond-true _ _ None (and_from _ _ (lt-ltb j m.set.n lj) p.0) ∙ cond-true _ _ _ p.1))) v
-
-module _ {K : Type 0} (eq : K → K → Bool) (bytes : K → List ℕ) (told : Tells eq bytes) (m : Replica) (t : Store) (j : ℕ) (lj : j < m.set.n) where
-  entry_vacant : (st : List ℕ → Stmt (List ℕ)) → ((x y : List ℕ) → st x ≡ st y → x ≡ y) → (guard : Bool) → guard ≡ true → (o : Option K) (there : Option (List ℕ)) → option_map bytes o ≡ there → (x : K)
-      → settled_by eq o x ≡ settled (StmtEq bytes_same) (held guard (option_map st there)) (st (bytes x))
-  entry_vacant st inj guard g o there is x =
-      settled_at eq (λ y. st (bytes y)) (carried_told eq bytes st told inj) guard g o _ (carried bytes st o ∙ ap (option_map st) is) x
-
-  pub send_vacant : (s : ℕ) (x : K) (o : Option K) → ranged (plan m) (box m t) (sends s (bytes x)) ≡ true → option_map bytes o ≡ get_or t.sends (slot_of m.set.w j s) None → settled_by eq o x ≡ vacant_of m t j (sends s (bytes x))
-  send_vacant s x o r is = entry_vacant (sends s) (λ x y h. cc) _ (and_from _ _ (lt-ltb j m.set.n lj) r) o _ is x
-
-  module _ (q s : ℕ) (x : K) (o : Option K) where
-    pub echo_vacant : ranged (plan m) (box m t) (echo q s (bytes x)) ≡ true → option_map bytes o ≡ get_or t.echoes (place_of m.set.n m.set.w q s j) None → settled_by eq o x ≡ vacant_of m t j (echo q s (bytes x))
-    echo_vacant r is = entry_vacant (echo q s) (λ x y h. cc) _ (and_from _ _ (lt-ltb j m.set.n lj) r) o _ is x
-
-    pub ready_vacant : ranged (plan m) (box m t) (ready q s (bytes x)) ≡ true → option_map bytes o ≡ get_or t.readies (place_of m.set.n m.set.w q s j) None → settled_by eq o x ≡ vacant_of m t j (ready q s (bytes x))
-    ready_vacant r is = entry_vacant (ready q s) (λ x y h. cc) _ (and_from _ _ (lt-ltb j m.set.n lj) r) o _ is x
-
-    pub have_vacant : ranged (plan m) (box m t) (have q s (bytes x)) ≡ true → option_map bytes o ≡ get_or t.haves (place_of m.set.n m.set.w q s j) None → settled_by eq o x ≡ vacant_of m t j (have q s (bytes x))
-    have_vacant r is = entry_vacant (have q s) (λ x y h. cc) _ (and_from _ _ (lt-ltb j m.set.n lj) r) o _ is x
+-- an entry that is held in a row of cells
+pub row_vacant :
+    {K : Type 0} (eq : K → K → Bool) (bytes : K → List ℕ) → Tells eq bytes → (st : List ℕ → Stmt (List ℕ)) → ((x y : List ℕ) → st x ≡ st y → x ≡ y)
+    → (j n : ℕ) → j < n → (ranged : Bool) → ranged ≡ true → (cells : List (Option K)) (at place : ℕ) (o : Option K) → o ≡ get_or cells at None → at ≡ place → (x : K)
+    → settled_by eq o x ≡ settled (StmtEq bytes_same) (held (ltb j n && ranged) (option_map st (get_or (map (option_map bytes) cells) place None))) (st (bytes x))
+row_vacant eq bytes told st inj j n lj ranged r cells at place o is e x =
+    let there = ap (option_map bytes) is ∙ sym (map_read bytes cells at) ∙ ap (λ a. get_or (map (option_map bytes) cells) a None) e in
+    settled_at eq (λ y. st (bytes y)) (carried_told eq bytes st told inj) _ (and_from _ _ (lt-ltb j n lj) r) o _ (carried bytes st o ∙ ap (option_map st) there) x

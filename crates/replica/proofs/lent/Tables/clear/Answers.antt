@@ -1,9 +1,13 @@
-use Rattle.std.proofs.Common.{map, ap, ◌∙◌}
+use Rattle.std.proofs.Common.{◌≡◌, ℕ, List, map, Option, ap, ◌∙◌}
 use Rattle.std.specs.Option.{option_map}
 use Rattle.cells.specs.Rows.{emptied}
 use Rattle.cells.proofs.Cellrows.{map_emptied}
 use Rattle.replica.specs.Store.{paged}
 use Rattle.replica.proofs.lent.Tables.clear.Goals as goal
+
+-- a table whose first cells were emptied, seen by its bytes
+seen : {A B : Type 0} (f : A → B) (before after : List (Option A)) (k n : ℕ) → after ≡ emptied k before → k ≡ n → map (option_map f) after ≡ emptied n (map (option_map f) before)
+seen f before after k n h e = ap (map (option_map f)) h ∙ map_emptied f k before ∙ ap (λ i. emptied i (map (option_map f) before)) e
 
 pub returns : goal.returns
 returns g c =
@@ -11,9 +15,10 @@ returns g c =
     let t = c.args.self.now in
     let slots = c.slots-slots.ensures in
     let rows = c.row_cells-rows.ensures in
-    let sends = ap (map (option_map b)) c.clear.ensures ∙ map_emptied b _ t.sends ∙ ap (λ k. emptied k (map (option_map b) t.sends)) slots in
-    let echoes = ap (map (option_map b)) c.clear-2.ensures ∙ map_emptied b _ t.echoes ∙ ap (λ k. emptied k (map (option_map b) t.echoes)) rows in
-    let readies = ap (map (option_map b)) c.clear-3.ensures ∙ map_emptied b _ t.readies ∙ ap (λ k. emptied k (map (option_map b) t.readies)) rows in
-    let haves = ap (map (option_map b)) c.clear-4.ensures ∙ map_emptied b _ t.haves ∙ ap (λ k. emptied k (map (option_map b) t.haves)) rows in
-    let pages = ap (map (option_map (paged b))) c.clear-5.ensures ∙ map_emptied (paged b) _ t.pages ∙ ap (λ k. emptied k (map (option_map (paged b)) t.pages)) slots in
-    λ i. record { sends = sends i; echoes = echoes i; readies = readies i; haves = haves i; pages = pages i }
+    λ i. record {
+      sends = seen b t.sends _ _ _ c.clear.ensures slots i;
+      echoes = seen b t.echoes _ _ _ c.clear-2.ensures rows i;
+      readies = seen b t.readies _ _ _ c.clear-3.ensures rows i;
+      haves = seen b t.haves _ _ _ c.clear-4.ensures rows i;
+      pages = seen (paged b) t.pages _ _ _ c.clear-5.ensures slots i;
+    }

@@ -6,14 +6,11 @@ use Rattle.replica.specs.Holding.{Heard}
 use Rattle.replica.proofs.Putting.{box_held, sized_held}
 use Rattle.replica.proofs.state.Replica.hold.Goals as goal
 
-pub returns : goal.returns
-returns g c =
+pub returns-clause-heard : goal.returns-clause-heard
+returns-clause-heard g c =
     let b = g.K.Entry.bytes in
     let m = c.args.self.now in
     let t = store b c.args.tables.now in
     let st = claim_of b c.args.claim in
     let j = c.args.sender in
-    record {
-      value = c.fill.ensures;
-      heard = subst (λ (p : Replica × Store). Heard m t j st p.0 p.1) (sym c.fill.ensures) (λ z free. (box_held m t j z c.requires.lent c.requires.from st c.requires.ranged free, sized_held m t j st z));
-    }
+    subst (λ (p : Replica × Store). Heard m t j st p.0 p.1) (sym c.fill.ensures) (λ z free. (box_held m t j z c.requires.lent c.requires.from st c.requires.ranged free, sized_held m t j st z))

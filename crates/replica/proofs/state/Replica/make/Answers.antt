@@ -1,5 +1,5 @@
-use Rattle.std.proofs.Common.{is_err, Ok, Err, sym, ap, ◌∙◌, subst}
-use Rattle.std.proofs.lemmas.Result.{err_from_is_err_and, IfOk-from_err}
+use Rattle.std.proofs.Common.{Ok, Err, sym, ap, ◌∙◌, subst}
+use Rattle.std.proofs.lemmas.Result.{err_from_is_err_and}
 use Rattle.replica.specs.Store.{store, Wiped}
 use Rattle.common.specs.Refusals.{answered}
 use Rattle.replica.specs.Making.{numbers, plain}
@@ -8,27 +8,15 @@ use Rattle.replica.proofs.Wiping.{wiped}
 use Rattle.replica.proofs.Freshness.{fresh_begins}
 use Rattle.replica.proofs.state.Replica.make.Goals as goal
 
-pub returns-in_err-set : goal.returns-in_err-set
-returns-in_err-set g c =
+pub returns-in_err-set-clause-value : goal.returns-in_err-set-clause-value
+returns-in_err-set-clause-value g c =
     let t = store g.K.Entry.bytes c.args.tables.now in
     let p = err_from_is_err_and c.from_residual.result c.from_residual.ensures.1 in
-    record {
-      value =
-          ap (λ r. (answered plain r, t)) (p.1 ∙ ap Err p.2)
-          ∙ make_declined c.args.n c.args.me c.args.w t _ c.in_err-set.ensures;
-      wiped = IfOk-from_err c.from_residual.result _ (ap is_err p.1);
-      begins = IfOk-from_err c.from_residual.result _ (ap is_err p.1);
-    }
+    ap (λ r. (answered plain r, t)) (p.1 ∙ ap Err p.2) ∙ make_declined c.args.n c.args.me c.args.w t _ c.in_err-set.ensures
 
-pub returns-then-not-fit : goal.returns-then-not-fit
-returns-then-not-fit g c =
-    let t = store g.K.Entry.bytes c.args.tables.now in
-    let s = numbers c.in_ok-set.set in
-    record {
-      value = make_short c.args.n c.args.me c.args.w t s c.in_ok-set.ensures c.if-not-fit.ensures;
-      wiped = tt;
-      begins = tt;
-    }
+pub returns-then-not-fit-clause-value : goal.returns-then-not-fit-clause-value
+returns-then-not-fit-clause-value g c =
+    make_short c.args.n c.args.me c.args.w (store g.K.Entry.bytes c.args.tables.now) (numbers c.in_ok-set.set) c.in_ok-set.ensures c.if-not-fit.ensures
 
 pub returns : goal.returns
 returns g c =

@@ -5,11 +5,8 @@ use Rattle.wire.proofs.Placing.{placed_front}
 use Rattle.wire.proofs.Reading.{written_read}
 use Rattle.wire.proofs.statement.Statement.write.Goals as goal
 
-pub returns : goal.returns
-returns g c =
+pub returns-clause-back : goal.returns-clause-back
+returns-clause-back g c =
     let w = g.K.Entry.WIDTH in
     let m = message_of c.args.self in
-    record {
-      value = c.put.ensures;
-      back = placed_front (λ s. parse_of w s ≡ Ok m) (unfit w m) (bytes_of m) c.args.out.now _ _ c.put.ensures (written_read w m);
-    }
+    placed_front (λ s. parse_of w s ≡ Ok m) (unfit w m) (bytes_of m) c.args.out.now _ _ c.put.ensures (written_read w m)
