@@ -1,6 +1,5 @@
 -- An entry is accepted exactly if the theory's box takes it.
-use Rattle.std.proofs.Common.{◌≡◌, ℕ, ◌<◌, Bool, true, false, not, ltb, List, length, get_or, Some, None, Ok, Err, Option, Result, sym, refl, ap, ◌∙◌, subst, arith}
-use Rattle.std.specs.Option.{option_map}
+use Rattle.std.proofs.Common.{◌≡◌, ℕ, ◌<◌, Bool, true, false, not, ltb, List, length, Some, None, Ok, Err, Option, Result, sym, refl, ap, ◌∙◌, subst, arith}
 use Rattle.std.proofs.lemmas.Bool.{lt-ltb, le-ltb, not-false, not-true, not_from_false}
 use Rattle.theory.specs.Statement.{Stmt, sends, at_send}
 use Rattle.theory.specs.Plan.{sameness}
@@ -8,7 +7,6 @@ use Rattle.theory.specs.Book.{stands_in_book}
 use Rattle.theory.specs.Machine.{small, says}
 use Rattle.theory.specs.Calls.{ranged, takes}
 use Rattle.theory.proofs.Searching.{first_some, unless_some, only_if_some, only_if_true}
-use Rattle.cells.specs.Rows.{slot_of}
 use Rattle.replica.specs.declared.state.Replica.{Replica}
 use Rattle.replica.specs.Store.{Store, fits}
 use Rattle.replica.specs.View.{view, plan, book_of, box}
@@ -18,11 +16,6 @@ use Rattle.intake.specs.Hearing.{heard}
 use Rattle.intake.specs.Submitting.{unused_of, offered, offer_of, submit_of, Submits}
 use Rattle.intake.proofs.Admitted.{passed}
 use Rattle.intake.proofs.Heard.{ok≢err}
-
--- a slot of the own queue, by its cell
-module _ (m : Replica) (t : Store) (s : ℕ) (l : s < m.set.w) where
-  pub own_cell : view m t m.set.me (at_send s) ≡ option_map (sends s) (get_or t.sends (slot_of m.set.w m.set.me s) None)
-  own_cell = rw (lt-ltb m.set.me m.set.n m.set.own, lt-ltb s m.set.w l) refl
 
 -- the slot that is found is below W and free
 pub unused_free : (m : Replica) (t : Store) (k : ℕ) → unused_of m t ≡ Some k → (k < m.set.w) × (view m t m.set.me (at_send k) ≡ None)

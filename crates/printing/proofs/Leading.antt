@@ -19,9 +19,3 @@ module _ {A B : Type 0} (f : A → B) where
 
     pub at_page : (cell : Option A) (p : A) → i < length cells → cell ≡ get_or cells i cell → cell ≡ Some p → leading (map (option_map f) (drop i cells)) ≡ f p ∷ leading (map (option_map f) (drop (i + 1) cells))
     at_page cell p h e is = at_cell cell (Some p) h e is
-
-    pub at_none : (cell : Option A) → i < length cells → cell ≡ get_or cells i cell → cell ≡ None → leading (map (option_map f) (drop i cells)) ≡ []
-    at_none cell h e is = at_cell cell None h e is
-
-    pub at_end : length cells ≤ i → leading (map (option_map f) (drop i cells)) ≡ []
-    at_end h = ap (λ l. leading (map (option_map f) l)) (drop_all i cells h)

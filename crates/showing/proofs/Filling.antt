@@ -1,5 +1,5 @@
 -- The board is just what the replica holds from itself.
-use Rattle.std.proofs.Common.{◌≡◌, ℕ, zero, suc, ◌^◌, ◌<◌, ◌≤◌, List, [], ◌∷◌, map, length, get_or, Some, None, Option, refl, drop, sym, ap, ◌∙◌, arith}
+use Rattle.std.proofs.Common.{◌≡◌, ℕ, zero, suc, ◌^◌, ◌<◌, ◌≤◌, List, [], ◌∷◌, map, length, get_or, Some, None, Option, refl, sym, ap, ◌∙◌, arith}
 use Rattle.std.specs.List.{ContainsAt, AllByRecursion}
 use Rattle.std.proofs.ByRecursion.{has_append_right}
 use Rattle.std.proofs.lemmas.List.{get_or-map}
@@ -32,11 +32,6 @@ all_filled : {A : Type 0} (P : A → Type 0) (os : List (Option A)) → ((i : �
 all_filled P [] each = tt
 all_filled P (None ∷ os) each = all_filled P os (λ i x e. each (suc i) x e)
 all_filled P (Some x ∷ os) each = (each 0 x refl, all_filled P os (λ i y e. each (suc i) y e))
-
-pub all_drop : {A : Type 0} (P : A → Type 0) (k : ℕ) (xs : List A) → AllByRecursion P xs → AllByRecursion P (drop k xs)
-all_drop P zero xs each = each
-all_drop P (suc k) [] each = tt
-all_drop P (suc k) (x ∷ xs) each = all_drop P k xs each.1
 
 few_filled : {A : Type 0} (os : List (Option A)) → length (filled os) ≤ length os
 few_filled [] = omega arith

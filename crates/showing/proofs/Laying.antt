@@ -13,9 +13,9 @@ rest_put out last at =
     ap (λ l. take at out ++ (last ++ l)) (drop_all (length out - at) (drop at out) (omega (arith, length-drop at out)))
     ∙ ap (λ l. take at out ++ l) (append-nil last)
 
-pub joined_push : (ts : List (List ℕ)) (t : List ℕ) → joined (ts ++ t ∷ []) ≡ joined ts ++ t
-joined_push [] t = append-nil t
-joined_push (s ∷ ts) t = ap (λ l. s ++ l) (joined_push ts t) ∙ sym (append_assoc s (joined ts) t)
+pub joined_append : (xs ys : List (List ℕ)) → joined (xs ++ ys) ≡ joined xs ++ joined ys
+joined_append [] ys = refl
+joined_append (x ∷ xs) ys = ap (λ l. x ++ l) (joined_append xs ys) ∙ sym (append_assoc x (joined xs) (joined ys))
 
 -- what placing answers
 pub record Fits (bs out last : List ℕ) (n : ℕ) : Type 0 where
@@ -90,9 +90,6 @@ module _ (was : List ℕ) (all rest : List (List ℕ)) (number at next : ℕ) (o
   long : length out ≡ length was
   long = omega (arith, ap length l.holds, length-append (joined l.done) (drop at was), length-drop at was, l.bytes, l.room)
 
-  pub laid_within : at ≤ length out
-  laid_within = omega (arith, long, l.room)
-
   front : take at out ≡ joined l.done
   front = ap (take at) l.holds ∙ take_at (joined l.done) (drop at was) at (sym l.bytes)
 
@@ -126,7 +123,7 @@ module _ (was s : List ℕ) (all rest : List (List ℕ)) (number at next : ℕ) 
       let b = behind was all (s ∷ rest) number at next out l in
       let k = left was all (s ∷ rest) number at next out l in
       let js = joined l.done in
-      let push = joined_push l.done s in
+      let push = joined_append l.done (s ∷ []) ∙ ap (λ r. joined l.done ++ r) (append-nil s) in
       record {
         done = l.done ++ s ∷ [];
         split = l.split ∙ sym (append_assoc l.done (s ∷ []) rest);

@@ -1,7 +1,7 @@
 -- The replica's own cell in the row of a slot.
 use Rattle.std.proofs.Common.{◌≡◌, ℕ, ◌+◌, ◌*◌, ◌/◌, ◌%◌, ◌<◌, ◌≤◌, List, get_or, None, Option, sym, refl, ap, ◌∙◌, arith}
 use Rattle.std.specs.Option.{option_map}
-use Rattle.std.proofs.lemmas.Nat.{mul-add-lt, div_below, mod_below, div-add-mod'}
+use Rattle.std.proofs.lemmas.Nat.{div_below, mod_below, div-add-mod'}
 use Rattle.std.proofs.lemmas.Bool.{lt-ltb}
 use Rattle.theory.specs.Statement.{Stmt}
 use Rattle.cells.specs.Rows.{Cells, place_of}
@@ -10,9 +10,6 @@ use Rattle.replica.specs.View.{row_cell}
 module _ (n w me j : ℕ) (own : me < n) (some : 1 ≤ w) (low : j < n * w) where
   pub row_low : j / w < n
   row_low = div_below j w n (omega arith) low
-
-  pub row_inside : j * n + me < n * w * n
-  row_inside = omega (arith, mul-add-lt j n me (n * w) low own)
 
   pub row_own :
       (cells : Cells) (st : List ℕ → Stmt (List ℕ)) (o : Option (List ℕ)) → o ≡ get_or cells (j * n + me) None

@@ -1,5 +1,5 @@
 -- What the board and show promise.
-use Rattle.std.proofs.Common.{◌≡◌, ℕ, zero, suc, ◌+◌, ◌-◌, ◌<◌, ◌≤◌, true, ◌⊎◌, List, [], ◌∷◌, ◌++◌, map, length, take, drop, replicate, Ok, sym, refl, ap, ◌∙◌, inl, inr, append_assoc, arith, take_all, drop-drop, take-add}
+use Rattle.std.proofs.Common.{◌≡◌, ℕ, zero, suc, ◌+◌, ◌-◌, ◌<◌, ◌≤◌, true, ◌⊎◌, List, [], ◌∷◌, ◌++◌, map, length, take, drop, replicate, Ok, sym, refl, ap, ◌∙◌, inl, inr, arith, take_all, drop-drop, take-add}
 use mathlib.Core.List.{map-append}
 use Rattle.std.specs.List.{ContainsAt, AllByRecursion}
 use Rattle.std.proofs.ByRecursion.{All-weaker, all_has_itself, All-take, All-drop}
@@ -17,11 +17,8 @@ use Rattle.showing.specs.Laws.{parts, Roomy, Step, Wrote, Shows}
 use Rattle.showing.proofs.Standing.{Wide}
 use Rattle.showing.proofs.Filling.{board_all, board_only, board_fits}
 use Rattle.showing.proofs.Ranking.{board_once}
+use Rattle.showing.proofs.Laying.{joined_append}
 use Rattle.showing.proofs.Stepping.{stepped, answers}
-
-joined_append : (xs ys : List (List ℕ)) → joined (xs ++ ys) ≡ joined xs ++ joined ys
-joined_append [] ys = refl
-joined_append (x ∷ xs) ys = ap (λ l. x ++ l) (joined_append xs ys) ∙ sym (append_assoc x (joined xs) (joined ys))
 
 -- the statements up to one number, and from there up to another
 parts_joined : (m : Replica) (t : Store) (i j k : ℕ) → i ≤ j → j ≤ k → joined (parts m t i j) ++ joined (parts m t j k) ≡ joined (parts m t i k)

@@ -1,12 +1,5 @@
 -- Statements counted off from the front of the board.
-use Rattle.std.proofs.Common.{◌≡◌, ℕ, ◌+◌, ◌<◌, ◌≤◌, List, [], ◌∷◌, length, get_or, drop, None, Option, sym, ap, ◌∙◌, arith, length-drop, drop-drop}
-use Rattle.std.proofs.lemmas.List.{drop_more}
-use Rattle.theory.specs.Statement.{Stmt}
-use Rattle.showing.specs.Boards.{filled}
-
--- what is filled from the place i on, where o stands
-pub filled_next : (places : List (Option (Stmt (List ℕ)))) (i : ℕ) (o : Option (Stmt (List ℕ))) → i < length places → o ≡ get_or places i None → filled (drop i places) ≡ filled (o ∷ drop (i + 1) places)
-filled_next places i o h e = ap filled (drop_more places i None h ∙ ap (λ x. x ∷ drop (i + 1) places) (sym e))
+use Rattle.std.proofs.Common.{◌≡◌, ℕ, ◌+◌, ◌≤◌, List, [], ◌∷◌, length, drop, sym, ap, ◌∙◌, arith, length-drop, drop-drop}
 
 -- the first k of all are passed, and these are left
 abbrev pub Passed : {A : Type 0} → ℕ → List A → List A → Type 0

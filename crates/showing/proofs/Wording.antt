@@ -1,17 +1,10 @@
 -- A claim's entry, written and stated.
-use Rattle.std.proofs.Common.{◌≡◌, ℕ, List, ◌++◌, length, take, Some, Option, sym, ap, ◌∙◌}
-use Rattle.std.proofs.lemmas.List.{take_at}
+use Rattle.std.proofs.Common.{◌≡◌, ℕ, List, Some, sym, ap, ◌∙◌}
 use Rattle.theory.specs.Statement.{entry_stated}
 use Rattle.wire.specs.Statements.{Message}
 use Rattle.replica.specs.declared.claim.Claim.{Claim}
 use Rattle.replica.specs.Claims.{claim_of}
 use Rattle.showing.specs.Spoken.{spoken}
-
--- what was written is the entry asked for
-pub item_front : (w : ℕ) (out b x rest : List ℕ) (o : Option (List ℕ)) → length b ≡ w → out ≡ b ++ rest → Some b ≡ o → o ≡ Some x → take w out ≡ x
-item_front w out b x rest o long is have asked =
-    let same : b ≡ x = (let e : Some b ≡ Some x = have ∙ asked in cc) in
-    ap (take w) is ∙ take_at b rest w long ∙ same
 
 -- a statement of the entry's bytes
 pub item_stated :

@@ -1,17 +1,12 @@
-use Rattle.std.proofs.Common.{sym, rules}
+use Rattle.std.proofs.Common.{sym}
 use Rattle.wire.specs.Statements.{message_of}
 use Rattle.replica.specs.Store.{store}
 use Rattle.replica.specs.Claims.{claim_of}
 use Rattle.intake.proofs.Admitted.{admitted}
 use Rattle.intake.proofs.hears.judge.Goals as goal
 
-pub vacant-requires : goal.vacant-requires
-vacant-requires g c =
+pub vacant-requires-clause-ranged : goal.vacant-requires-clause-ranged
+vacant-requires-clause-ranged g c =
     let k = g.K.Entry in
-    let m = c.args.replica.now in
     let t = store k.bytes c.args.tables.now in
-    record {
-      lent = search rules;
-      from = search rules;
-      ranged = (admitted k.valid m t c.args.sender (message_of c.in_ok-statement.statement) (claim_of k.bytes c.in_ok-claim.claim) (sym c.in_ok-claim.ensures)).0;
-    }
+    (admitted k.valid c.args.replica.now t c.args.sender (message_of c.in_ok-statement.statement) (claim_of k.bytes c.in_ok-claim.claim) (sym c.in_ok-claim.ensures)).0

@@ -7,15 +7,11 @@ use Rattle.replica.specs.Claims.{claim_of}
 use Rattle.intake.proofs.Submitted.{offers, send_ranged}
 use Rattle.intake.proofs.submits.enter.Goals as goal
 
-pub hold-requires : goal.hold-requires
-hold-requires g c =
+pub hold-requires-clause-ranged : goal.hold-requires-clause-ranged
+hold-requires-clause-ranged g c =
     let k = g.K.Entry in
     let m = c.args.replica.now in
     let t = store k.bytes c.args.tables.now in
     let s = c.args.s.now in
     let f = offers k.WIDTH k.valid m t s (claim_of k.bytes c.in_ok-claim.claim) (sym c.in_ok-claim.ensures) in
-    record {
-      lent = f.1.lent;
-      from = m.set.own;
-      ranged = subst (λ (x : Stmt (List ℕ)). ranged (plan m) (box m t) x ≡ true) f.2 (send_ranged k.WIDTH k.valid m t s f.0 f.1);
-    }
+    subst (λ (x : Stmt (List ℕ)). ranged (plan m) (box m t) x ≡ true) f.2 (send_ranged k.WIDTH k.valid m t s f.0 f.1)

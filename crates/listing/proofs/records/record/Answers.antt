@@ -1,5 +1,5 @@
 use Rattle.listing.proofs.Accounting.{accounts}
 use Rattle.listing.proofs.records.record.Goals as goal
 
-pub returns : goal.returns
-returns g c = record { value = c.assembled.ensures; accounts = accounts _ c.args.frame.now }
+pub returns-clause-accounts : goal.returns-clause-accounts
+returns-clause-accounts g c = accounts _ c.args.frame.now

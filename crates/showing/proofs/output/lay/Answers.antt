@@ -28,9 +28,6 @@ loop-claim-init g c =
     (sym c.into_iter-claim-iterator.ensures.into_iter_gives)
     (c.requires.fit, laid_start out (map spelled all) c.args.number)
 
-pub write-requires : goal.write-requires
-write-requires g c = (onward _ _ _ _ _ _ _ _ _ (claim_of g.K.Entry.bytes c.in-Some.claim) c.in-Some.ensures.steps c.loop-claim.invariant).0.0
-
 pub overflow_add-next : goal.overflow_add-next
 overflow_add-next g c =
     let l = (onward _ _ _ _ _ _ _ _ _ (claim_of g.K.Entry.bytes c.in-Some.claim) c.in-Some.ensures.steps c.loop-claim.invariant).1 in

@@ -1,5 +1,6 @@
 use Rattle.std.proofs.Common.{◌≡◌, length, map, None, sym, ap, ◌∙◌, subst, arith, length-drop}
 use Rattle.std.specs.List.{AllByRecursion}
+use Rattle.std.proofs.ByRecursion.{All-drop}
 use Rattle.std.proofs.lemmas.Result.{err_from_is_err_and}
 use Rattle.common.specs.Refusals.{declined}
 use Rattle.common.specs.declared.refusal.Refusal.TheVariants as refusals
@@ -10,7 +11,7 @@ use Rattle.showing.specs.Boards.{board_of, standing}
 use Rattle.showing.specs.Spoken.{spoken, spelled}
 use Rattle.showing.specs.Showing.{lay_of, show_of}
 use Rattle.showing.proofs.Standing.{store_wide}
-use Rattle.showing.proofs.Filling.{all_drop, board_writable, board_few}
+use Rattle.showing.proofs.Filling.{board_writable, board_few}
 use Rattle.showing.proofs.Telling.{show_refused, show_past, show_from}
 use Rattle.showing.proofs.output.write_out.Goals as goal
 
@@ -44,7 +45,7 @@ lay-requires-clause-fit g c =
     let m = c.in_ok-lent.lent.replica.now in
     let tables = c.in_ok-lent.lent.tables.now in
     let all = board_writable m (store b tables) w (store_wide b w tables (λ k. law.wide (b k) (law.sound k))) in
-    subst (AllByRecursion (λ s. unfit w (spoken s) ≡ None)) (sym c.in-Some.ensures.1) (all_drop _ c.args.number (board_of m (store b tables)) all)
+    subst (AllByRecursion (λ s. unfit w (spoken s) ≡ None)) (sym c.in-Some.ensures.1) (All-drop _ c.args.number (board_of m (store b tables)) all)
 
 pub returns : goal.returns
 returns g c =
