@@ -1,5 +1,5 @@
 // What print writes, and what it declines.
-use crate::worlds::{Cells, Lengths, READINGS, begin, needed, read};
+use crate::worlds::{Cells, Lengths, READINGS, begin, needed, put_at, read};
 use entry::Reading;
 use printing::print;
 use replica::Page;
@@ -16,7 +16,7 @@ const NONE: &[u8; 51] = b"book;4;0\nepoch;box;slot;house;week;quantity;amount\n"
 // Prints the file of a replica of 4 with one slot each, whose cells hold `held` pages, `count` of them counted; answers
 // its length, or the number of the refusal.
 fn printed(held: usize, count: u16, out: &mut [u8]) -> Result<Result<usize, u8>, Fail> {
-    let item = read(READINGS.x)?;
+    let item = read::<Reading>(READINGS.x)?;
     let first = Page {
         epoch: 0,
         queue: 0,
@@ -29,12 +29,12 @@ fn printed(held: usize, count: u16, out: &mut [u8]) -> Result<Result<usize, u8>,
         slot: 10,
         item,
     };
-    let mut cells = Cells::<Reading>::of(None, needed(4, 1));
+    let mut cells = Cells::of(None, needed(4, 1));
     let mut replica = begin(4, 2, 1, &mut cells)?;
     replica.pages = count;
     let pages = [first, other, other, other];
-    for (cell, page) in cells.pages.iter_mut().zip(pages).take(held) {
-        *cell = Some(page);
+    for (place, page) in pages.iter().enumerate().take(held) {
+        put_at(&mut cells.pages, place, *page)?;
     }
     Ok(print(&replica, &cells.tables(), out).map_err(u8::from))
 }

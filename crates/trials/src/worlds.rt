@@ -93,12 +93,17 @@ impl<K: Entry> Cells<K> {
 
     pub fn tables(&mut self) -> Tables<'_, K> {
         let [s, e, r, h, p] = self.lent;
+        let sends = &mut self.sends;
+        let echoes = &mut self.echoes;
+        let readies = &mut self.readies;
+        let haves = &mut self.haves;
+        let pages = &mut self.pages;
         Tables::lend(
-            front(&mut self.sends, s),
-            front(&mut self.echoes, e),
-            front(&mut self.readies, r),
-            front(&mut self.haves, h),
-            front(&mut self.pages, p),
+            front(&mut sends[..], s),
+            front(&mut echoes[..], e),
+            front(&mut readies[..], r),
+            front(&mut haves[..], h),
+            front(&mut pages[..], p),
         )
     }
 
@@ -149,7 +154,8 @@ pub fn front<T>(cells: &mut [T], count: usize) -> &mut [T] {
     &mut cells[..end]
 }
 
-fn put_at<T: Copy>(cells: &mut [Option<T>], at: usize, x: T) -> Result<(), Fail> {
+// Fills the cell at a place.
+pub fn put_at<T: Copy>(cells: &mut [Option<T>], at: usize, x: T) -> Result<(), Fail> {
     *cells.get_mut(at).ok_or("out of range")? = Some(x);
     Ok(())
 }
@@ -201,11 +207,18 @@ impl<K: Entry> World<K> {
 
     // Puts the replica into an epoch and a stage, with so many pages.
     pub fn set(&mut self, epoch: u16, stage: Stage, pages: u16) {
-        for replica in [&mut self.replica, &mut self.want] {
-            replica.epoch = epoch;
-            replica.stage = stage;
-            replica.pages = pages;
-        }
+        self.replica = Replica {
+            epoch,
+            stage,
+            pages,
+            ..self.replica
+        };
+        self.want = Replica {
+            epoch,
+            stage,
+            pages,
+            ..self.want
+        };
     }
 
     // What a call answers, after which all is as wanted.
