@@ -35,12 +35,17 @@ impl Cells {
 
     fn tables(&mut self) -> Result<Tables<'_, Reading>, Fail> {
         let [s, e, r, h, p] = self.lent;
+        let sends = &mut self.sends;
+        let echoes = &mut self.echoes;
+        let readies = &mut self.readies;
+        let haves = &mut self.haves;
+        let pages = &mut self.pages;
         Ok(Tables::lend(
-            front(&mut self.sends, s)?,
-            front(&mut self.echoes, e)?,
-            front(&mut self.readies, r)?,
-            front(&mut self.haves, h)?,
-            front(&mut self.pages, p)?,
+            front(&mut sends[..], s)?,
+            front(&mut echoes[..], e)?,
+            front(&mut readies[..], r)?,
+            front(&mut haves[..], h)?,
+            front(&mut pages[..], p)?,
         ))
     }
 }
