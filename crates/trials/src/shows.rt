@@ -1,5 +1,5 @@
 // What show writes, from each number on and into each room.
-use crate::worlds::{Cells, READINGS, begin, needed, read};
+use crate::worlds::{Cells, READINGS, begin, needed, put_at, read};
 use entry::Reading;
 use replica::{Replica, Tables};
 use showing::{Shown, show};
@@ -99,16 +99,16 @@ fn boards(rt: HostRuntime) -> Result<(), Fail> {
     let mut cells = Cells::of(None, needed(4, 2));
     let mut replica = made(&rt, &mut cells)?;
     vote(&mut replica);
-    let x = Some(read(READINGS.x)?);
-    let y = Some(read(READINGS.y)?);
-    cells.sends[4] = x;
-    cells.sends[5] = y;
-    cells.sends[6] = y;
-    cells.echoes[30] = x;
-    cells.echoes[31] = y;
-    cells.readies[2] = y;
-    cells.readies[3] = y;
-    cells.haves[10] = x;
+    let x = read(READINGS.x)?;
+    let y = read(READINGS.y)?;
+    put_at(&mut cells.sends, 4, x)?;
+    put_at(&mut cells.sends, 5, y)?;
+    put_at(&mut cells.sends, 6, y)?;
+    put_at(&mut cells.echoes, 30, x)?;
+    put_at(&mut cells.echoes, 31, y)?;
+    put_at(&mut cells.readies, 2, y)?;
+    put_at(&mut cells.readies, 3, y)?;
+    put_at(&mut cells.haves, 10, x)?;
     let tables = cells.tables();
     for number in 0..15 {
         for room in 0..120 {
