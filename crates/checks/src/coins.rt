@@ -1,5 +1,4 @@
 use coin::{Bench, Coin, Sheet};
-use std::process::Abort;
 use std::test::Fail;
 
 #[test]
@@ -21,10 +20,7 @@ fn sheet_bits(rt: HostRuntime) -> Result<(), Fail> {
     bytes[1] = 0x80;
     bytes[14] = 0x08;
     bytes[511] = 0x01;
-    let mut coin = match Sheet::deal(&bytes) {
-        Ok(coin) => coin,
-        Err(_) => return Err(Fail::new("declined")),
-    };
+    let mut coin = Sheet::deal(&bytes)?;
     assert_eq!(rt; coin.toss(0, 0), true);
     assert_eq!(rt; coin.toss(0, 1), false);
     assert_eq!(rt; coin.toss(0, 14), false);
@@ -38,21 +34,16 @@ fn sheet_bits(rt: HostRuntime) -> Result<(), Fail> {
     Ok(())
 }
 
-fn declined(rt: &impl Abort, bytes: &[u8]) -> Result<(), Fail> {
-    match Sheet::deal(bytes) {
-        Ok(_) => Err(Fail::new("accepted")),
-        Err(e) => {
-            assert_eq!(rt; u8::from(e), 24);
-            Ok(())
-        },
-    }
+// The number of the refusal, if the bytes are no sheet.
+fn refused(bytes: &[u8]) -> Option<u8> {
+    Sheet::deal(bytes).err().map(u8::from)
 }
 
 #[test]
-fn sheet_lengths(rt: HostRuntime) -> Result<(), Fail> {
+fn sheet_lengths(rt: HostRuntime) {
     let bytes = [0; 513];
-    declined(&rt, &bytes[0..0])?;
-    declined(&rt, &bytes[0..511])?;
-    assert!(rt; Sheet::deal(&bytes[0..512]).is_ok());
-    declined(&rt, &bytes)
+    assert_eq!(rt; refused(&bytes[0..0]), Some(24));
+    assert_eq!(rt; refused(&bytes[0..511]), Some(24));
+    assert_eq!(rt; refused(&bytes[0..512]), None);
+    assert_eq!(rt; refused(&bytes), Some(24));
 }

@@ -19,27 +19,18 @@ fn order(kind: u8, from: u16, to: u16, amount: u32) -> [u8; 9] {
 
 // The bytes are an entry, which writes them again and is the same as itself.
 fn is_entry<K: Entry>(rt: &impl Abort, bytes: &[u8]) -> Result<(), Fail> {
-    let Some(x) = K::read(bytes) else {
-        return Err(Fail::new("no entry"));
-    };
+    let x = K::read(bytes).ok_or("no entry")?;
     let mut out = [0xff; 32];
     x.write(&mut out);
     assert_eq!(rt; bytes.len(), K::WIDTH);
-    for (i, b) in bytes.iter().enumerate() {
-        assert!(rt; i < 32);
-        assert_eq!(rt; out[i], *b);
-    }
-    assert!(rt; bytes.len() < 32);
-    assert_eq!(rt; out[bytes.len()], 0xff);
+    assert_eq!(rt; out.get(..bytes.len()), Some(bytes));
+    assert_eq!(rt; out.get(bytes.len()), Some(&0xff));
     assert!(rt; x == x);
     Ok(())
 }
 
-fn is_none<K: Entry>(bytes: &[u8]) -> Result<(), Fail> {
-    match K::read(bytes) {
-        Some(_) => Err(Fail::new("an entry")),
-        None => Ok(()),
-    }
+fn is_none<K: Entry>(rt: &impl Abort, bytes: &[u8]) {
+    assert!(rt; K::read(bytes).is_none());
 }
 
 #[test]
@@ -47,59 +38,59 @@ fn readings_at_the_edges(rt: HostRuntime) -> Result<(), Fail> {
     is_entry::<Reading>(&rt, &reading(1, 1, 1, 0))?;
     is_entry::<Reading>(&rt, &reading(999, 53, 3, u32::MAX))?;
     is_entry::<Reading>(&rt, &reading(256, 7, 2, 3400))?;
-    is_none::<Reading>(&reading(0, 1, 1, 0))?;
-    is_none::<Reading>(&reading(1000, 1, 1, 0))?;
-    is_none::<Reading>(&reading(65535, 1, 1, 0))?;
-    is_none::<Reading>(&reading(1, 0, 1, 0))?;
-    is_none::<Reading>(&reading(1, 54, 1, 0))?;
-    is_none::<Reading>(&reading(1, 1, 0, 0))?;
-    is_none::<Reading>(&reading(1, 1, 4, 0))
+    is_none::<Reading>(&rt, &reading(0, 1, 1, 0));
+    is_none::<Reading>(&rt, &reading(1000, 1, 1, 0));
+    is_none::<Reading>(&rt, &reading(65535, 1, 1, 0));
+    is_none::<Reading>(&rt, &reading(1, 0, 1, 0));
+    is_none::<Reading>(&rt, &reading(1, 54, 1, 0));
+    is_none::<Reading>(&rt, &reading(1, 1, 0, 0));
+    is_none::<Reading>(&rt, &reading(1, 1, 4, 0));
+    Ok(())
 }
 
 #[test]
-fn readings_of_other_widths() -> Result<(), Fail> {
+fn readings_of_other_widths(rt: HostRuntime) {
     let bytes = reading(1, 1, 1, 0);
-    is_none::<Reading>(&bytes[0..7])?;
-    is_none::<Reading>(&bytes[0..0])?;
-    is_none::<Reading>(&order(1, 1, 2, 1))
+    is_none::<Reading>(&rt, &bytes[0..7]);
+    is_none::<Reading>(&rt, &bytes[0..0]);
+    is_none::<Reading>(&rt, &order(1, 1, 2, 1));
 }
 
 #[test]
 fn gifts_at_the_edges(rt: HostRuntime) -> Result<(), Fail> {
     is_entry::<ShareOrder>(&rt, &order(1, 1, 999, 1))?;
     is_entry::<ShareOrder>(&rt, &order(1, 999, 1, u32::MAX))?;
-    is_none::<ShareOrder>(&order(1, 0, 1, 1))?;
-    is_none::<ShareOrder>(&order(1, 1000, 1, 1))?;
-    is_none::<ShareOrder>(&order(1, 1, 0, 1))?;
-    is_none::<ShareOrder>(&order(1, 1, 1000, 1))?;
-    is_none::<ShareOrder>(&order(1, 7, 7, 1))?;
-    is_none::<ShareOrder>(&order(1, 1, 2, 0))?;
-    is_none::<ShareOrder>(&order(0, 1, 2, 1))?;
-    is_none::<ShareOrder>(&order(3, 1, 2, 1))
+    is_none::<ShareOrder>(&rt, &order(1, 0, 1, 1));
+    is_none::<ShareOrder>(&rt, &order(1, 1000, 1, 1));
+    is_none::<ShareOrder>(&rt, &order(1, 1, 0, 1));
+    is_none::<ShareOrder>(&rt, &order(1, 1, 1000, 1));
+    is_none::<ShareOrder>(&rt, &order(1, 7, 7, 1));
+    is_none::<ShareOrder>(&rt, &order(1, 1, 2, 0));
+    is_none::<ShareOrder>(&rt, &order(0, 1, 2, 1));
+    is_none::<ShareOrder>(&rt, &order(3, 1, 2, 1));
+    Ok(())
 }
 
 #[test]
 fn closings_at_the_edges(rt: HostRuntime) -> Result<(), Fail> {
     is_entry::<ShareOrder>(&rt, &order(2, 1, 0, 0))?;
     is_entry::<ShareOrder>(&rt, &order(2, 999, 0, 0))?;
-    is_none::<ShareOrder>(&order(2, 0, 0, 0))?;
-    is_none::<ShareOrder>(&order(2, 1000, 0, 0))?;
-    is_none::<ShareOrder>(&order(2, 1, 1, 0))?;
-    is_none::<ShareOrder>(&order(2, 1, 256, 0))?;
-    is_none::<ShareOrder>(&order(2, 1, 0, 1))?;
-    is_none::<ShareOrder>(&order(2, 1, 0, 16777216))?;
-    is_none::<ShareOrder>(&reading(1, 1, 1, 0))
+    is_none::<ShareOrder>(&rt, &order(2, 0, 0, 0));
+    is_none::<ShareOrder>(&rt, &order(2, 1000, 0, 0));
+    is_none::<ShareOrder>(&rt, &order(2, 1, 1, 0));
+    is_none::<ShareOrder>(&rt, &order(2, 1, 256, 0));
+    is_none::<ShareOrder>(&rt, &order(2, 1, 0, 1));
+    is_none::<ShareOrder>(&rt, &order(2, 1, 0, 16777216));
+    is_none::<ShareOrder>(&rt, &reading(1, 1, 1, 0));
+    Ok(())
 }
 
 // Whether the entries of two byte strings are the same.
 fn same<K: Entry>(rt: &impl Abort, a: &[u8], b: &[u8], answer: bool) -> Result<(), Fail> {
-    match (K::read(a), K::read(b)) {
-        (Some(x), Some(y)) => {
-            assert_eq!(rt; x == y, answer);
-            Ok(())
-        },
-        _ => Err(Fail::new("no entry")),
-    }
+    let x = K::read(a).ok_or("no entry")?;
+    let y = K::read(b).ok_or("no entry")?;
+    assert_eq!(rt; x == y, answer);
+    Ok(())
 }
 
 #[test]

@@ -1,7 +1,7 @@
 use cells::Witness;
 
 // A page of the book.
-#[derive(Clone, Copy)]
+#[derive(Clone, Copy, PartialEq, Eq)]
 pub struct Page<K> {
     pub epoch: u16,
     pub queue: u8,

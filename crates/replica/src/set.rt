@@ -2,7 +2,7 @@ ghost use Rattle.std.specs.Prelude.{◌≡◌, ◌<◌, ◌≤◌};
 ghost use Rattle.common.specs.Quorums.{faults, echoes};
 
 // The numbers of a set of replicas, and the own one. They stay as they were made.
-#[derive(Clone, Copy)]
+#[derive(Clone, Copy, PartialEq, Eq)]
 pub struct Set {
     // How many replicas there are.
     pub n: u8,

@@ -2,7 +2,7 @@ use crate::set::Set;
 use votes::Votes;
 
 // Where a replica is in its epoch.
-#[derive(Clone, Copy)]
+#[derive(Clone, Copy, PartialEq, Eq)]
 pub enum Stage {
     Unopened,
     // In a round; the last one closes once.
@@ -12,7 +12,7 @@ pub enum Stage {
 }
 
 // All that a replica holds besides its lent tables.
-#[derive(Clone, Copy)]
+#[derive(Clone, Copy, PartialEq, Eq)]
 pub struct Replica {
     pub set: Set,
     pub epoch: u16,

@@ -1,5 +1,7 @@
 // What hear accepts, the one cell that it fills, and what it declines.
-use crate::worlds::{ALL, Items, LETTERS, ORDERS, READINGS, World, lacking, line, made, needed};
+use crate::worlds::{
+    ALL, Answer, Items, LETTERS, Lengths, ORDERS, READINGS, World, lacking, line, made, needed,
+};
 use entry::{Entry, Reading, ShareOrder};
 use replica::Stage;
 use std::process::Abort;
@@ -30,9 +32,9 @@ fn once<K: Entry>(
     head: [u8; 4],
     items: Items<'_>,
 ) -> Result<(), Fail> {
-    world.says(sender, head, items.x, 0)?;
-    world.says(sender, head, items.x, 14)?;
-    world.says(sender, head, items.y, 15)
+    world.says(sender, head, items.x, Ok(()))?;
+    world.says(sender, head, items.x, Err(14))?;
+    world.says(sender, head, items.y, Err(15))
 }
 
 // The last that is in range and the first that is not, and the largest byte.
@@ -40,39 +42,39 @@ fn edges<K: Entry>(world: &mut World<K>, n: u8, w: u8, items: Items<'_>) -> Resu
     world.renew(n, n / 2, w, ALL, items.y)?;
     let q = n.wrapping_sub(1);
     let s = w.wrapping_sub(1);
-    for (slot, number) in [(w, 10), (255, 10), (s, 0)] {
-        world.says(q, [b'S', slot, 0, 0], items.x, number)?;
+    for (slot, answer) in [(w, Err(10)), (255, Err(10)), (s, Ok(()))] {
+        world.says(q, [b'S', slot, 0, 0], items.x, answer)?;
     }
     for letter in [b'E', b'R', b'H'] {
-        for (a, b, number) in [
-            (n, s, 10),
-            (255, s, 10),
-            (q, w, 10),
-            (q, 255, 10),
-            (q, s, 0),
+        for (a, b, answer) in [
+            (n, s, Err(10)),
+            (255, s, Err(10)),
+            (q, w, Err(10)),
+            (q, 255, Err(10)),
+            (q, s, Ok(())),
         ] {
-            world.says(q, [letter, a, b, 0], items.x, number)?;
+            world.says(q, [letter, a, b, 0], items.x, answer)?;
         }
     }
     for letter in [b'V', b'A'] {
-        for (k, v, number) in [
-            (16, 1, 10),
-            (255, 0, 10),
-            (15, 2, 10),
-            (15, 255, 10),
-            (15, 1, 0),
+        for (k, v, answer) in [
+            (16, 1, Err(10)),
+            (255, 0, Err(10)),
+            (15, 2, Err(10)),
+            (15, 255, Err(10)),
+            (15, 1, Ok(())),
         ] {
-            world.says(q, [letter, 0, k, v], items.x, number)?;
+            world.says(q, [letter, 0, k, v], items.x, answer)?;
         }
     }
     for (k, set) in [(16, 1), (255, 3), (15, 0), (15, 4), (15, 255)] {
-        world.says(q, [b'C', 0, k, set], items.x, 10)?;
+        world.says(q, [b'C', 0, k, set], items.x, Err(10))?;
     }
     for (k, set) in [(15, 3), (14, 2), (0, 1)] {
-        world.says(q, [b'C', 0, k, set], items.x, 0)?;
+        world.says(q, [b'C', 0, k, set], items.x, Ok(()))?;
     }
-    for (bit, number) in [(2, 10), (255, 10), (1, 0)] {
-        world.says(q, [b'F', 0, bit, 0], items.x, number)?;
+    for (bit, answer) in [(2, Err(10)), (255, Err(10)), (1, Ok(()))] {
+        world.says(q, [b'F', 0, bit, 0], items.x, answer)?;
     }
     Ok(())
 }
@@ -81,20 +83,31 @@ fn edges<K: Entry>(world: &mut World<K>, n: u8, w: u8, items: Items<'_>) -> Resu
 fn votes<K: Entry>(world: &mut World<K>, sender: u8, e: u8, x: &[u8]) -> Result<(), Fail> {
     for k in 0..16u8 {
         let (b, c) = (k % 2, k % 3);
-        for (bit, number) in [(b, 0), (b, 14), (1 - b, 0), (0, 14), (1, 14)] {
-            world.says(sender, [b'V', e, k, bit], x, number)?;
+        for (bit, answer) in [
+            (b, Ok(())),
+            (b, Err(14)),
+            (1 - b, Ok(())),
+            (0, Err(14)),
+            (1, Err(14)),
+        ] {
+            world.says(sender, [b'V', e, k, bit], x, answer)?;
         }
-        for (bit, number) in [(b, 0), (b, 14), (1 - b, 15)] {
-            world.says(sender, [b'A', e, k, bit], x, number)?;
+        for (bit, answer) in [(b, Ok(())), (b, Err(14)), (1 - b, Err(15))] {
+            world.says(sender, [b'A', e, k, bit], x, answer)?;
         }
-        for (i, number) in [(c, 0), (c, 14), ((c + 1) % 3, 15), ((c + 2) % 3, 15)] {
-            world.says(sender, [b'C', e, k, 1 + i % 3], x, number)?;
+        for (i, answer) in [
+            (c, Ok(())),
+            (c, Err(14)),
+            ((c + 1) % 3, Err(15)),
+            ((c + 2) % 3, Err(15)),
+        ] {
+            world.says(sender, [b'C', e, k, 1 + i % 3], x, answer)?;
         }
     }
     let bit = sender % 2;
-    world.says(sender, [b'F', e, bit, 0], x, 0)?;
-    world.says(sender, [b'F', e, bit, 0], x, 14)?;
-    world.says(sender, [b'F', e, 1 - bit, 0], x, 15)
+    world.says(sender, [b'F', e, bit, 0], x, Ok(()))?;
+    world.says(sender, [b'F', e, bit, 0], x, Err(14))?;
+    world.says(sender, [b'F', e, 1 - bit, 0], x, Err(15))
 }
 
 // Votes that are in range, of an epoch that is not the current one.
@@ -102,13 +115,13 @@ fn untimely<K: Entry>(
     world: &mut World<K>,
     sender: u8,
     e: u8,
-    number: u8,
+    answer: Answer,
     x: &[u8],
 ) -> Result<(), Fail> {
-    world.says(sender, [b'V', e, 0, 0], x, number)?;
-    world.says(sender, [b'A', e, 7, 1], x, number)?;
-    world.says(sender, [b'C', e, 15, 3], x, number)?;
-    world.says(sender, [b'F', e, 1, 0], x, number)
+    world.says(sender, [b'V', e, 0, 0], x, answer)?;
+    world.says(sender, [b'A', e, 7, 1], x, answer)?;
+    world.says(sender, [b'C', e, 15, 3], x, answer)?;
+    world.says(sender, [b'F', e, 1, 0], x, answer)
 }
 
 // In an epoch and a stage: votes of other epochs, and all votes of the first and of the last replica.
@@ -121,14 +134,14 @@ fn epochs<K: Entry>(
     items: Items<'_>,
 ) -> Result<(), Fail> {
     world.renew(n, n / 2, w, needed(n, w), items.y)?;
-    world.set(epoch as u16, stage, 0);
+    world.set(u16::from(epoch), stage, 0);
     let last = n.wrapping_sub(1);
     for e in [0, 1, 127, 128, 129, 254, 255] {
         if e < epoch {
-            untimely(world, 0, e, 12, items.x)?;
+            untimely(world, 0, e, Err(12), items.x)?;
         }
         if e > epoch {
-            untimely(world, last, e, 13, items.x)?;
+            untimely(world, last, e, Err(13), items.x)?;
         }
     }
     votes(world, 0, epoch, items.x)?;
@@ -178,9 +191,9 @@ fn week_over<K: Entry>(world: &mut World<K>, n: u8, w: u8, items: Items<'_>) -> 
     world.renew(n, n / 2, w, needed(n, w), items.y)?;
     world.set(256, Stage::Unopened, 0);
     for e in [0, 1, 254, 255] {
-        untimely(world, 0, e, 12, items.x)?;
-        world.says(0, [b'V', e, 16, 0], items.x, 10)?;
-        world.says(0, [b'F', e, 2, 0], items.x, 10)?;
+        untimely(world, 0, e, Err(12), items.x)?;
+        world.says(0, [b'V', e, 16, 0], items.x, Err(10))?;
+        world.says(0, [b'F', e, 2, 0], items.x, Err(10))?;
     }
     for head in [
         [b'S', 0, 0, 0],
@@ -210,7 +223,7 @@ fn cut<K: Entry>(
             world.hears(0, &bytes[0..k], 7)?;
         }
         world.hears(0, &bytes[0..len + 1], 9)?;
-        world.says(0, head, items.x, 0)?;
+        world.says(0, head, items.x, Ok(()))?;
     }
     Ok(())
 }
@@ -218,13 +231,12 @@ fn cut<K: Entry>(
 // Every first byte, and every sender.
 fn bytes<K: Entry>(world: &mut World<K>, n: u8, w: u8, items: Items<'_>) -> Result<(), Fail> {
     world.renew(n, n / 2, w, needed(n, w), items.y)?;
-    for i in 0..256u16 {
-        let b = (i & 255) as u8;
+    for b in 0..=255u8 {
         let known = matches!(b as char, 'S' | 'E' | 'R' | 'H' | 'V' | 'A' | 'C' | 'F');
         world.hears(0, &[b], if known { 7 } else { 6 })?;
         world.hears(0, &[b; 16], if known { 9 } else { 6 })?;
         if b < n && b != n / 2 {
-            world.says(b, [b'F', 0, b % 2, 0], items.x, 0)?;
+            world.says(b, [b'F', 0, b % 2, 0], items.x, Ok(()))?;
         } else {
             world.hears(b, &[b'F', 0, 1], 8)?;
             world.hears(b, &[], 8)?;
@@ -239,20 +251,20 @@ fn short<K: Entry>(
     world: &mut World<K>,
     n: u8,
     w: u8,
-    enough: [usize; 5],
+    enough: Lengths,
     items: Items<'_>,
 ) -> Result<(), Fail> {
     world.renew(n, n / 2, w, enough, items.y)?;
-    for table in 0..5usize {
-        world.cells.lent = lacking(n, w, table);
-        world.says(0, [b'S', 0, 0, 0], items.x, 4)?;
-        world.says(0, [b'F', 0, 1, 0], items.x, 4)?;
+    for lent in lacking(needed(n, w)) {
+        world.cells.lent = lent;
+        world.says(0, [b'S', 0, 0, 0], items.x, Err(4))?;
+        world.says(0, [b'F', 0, 1, 0], items.x, Err(4))?;
         world.hears(n / 2, &[], 4)?;
         world.hears(n, b"Z", 4)?;
     }
     world.cells.lent = enough;
     for letter in LETTERS {
-        world.says(0, [letter, 0, 0, 1], items.x, 0)?;
+        world.says(0, [letter, 0, 0, 1], items.x, Ok(()))?;
     }
     Ok(())
 }
@@ -278,7 +290,7 @@ fn order_of_lengths<K: Entry>(
     let (bytes, len) = line([b'E', n, w, 0], items.none)?;
     assert!(rt; len < 16);
     world.hears(0, &bytes[0..len + 1], 9)?;
-    world.says(0, [b'S', w, 0, 0], items.none, 10)
+    world.says(0, [b'S', w, 0, 0], items.none, Err(10))
 }
 
 // An entry that is none, with other faults.
@@ -291,10 +303,10 @@ fn order_of_entries<K: Entry>(
     world.renew(n, n / 2, w, needed(n, w), items.y)?;
     for letter in [b'E', b'R', b'H'] {
         for (queue, slot, number) in [(n, 0, 10), (0, w, 10), (0, 0, 11)] {
-            world.says(0, [letter, queue, slot, 0], items.none, number)?;
+            world.says(0, [letter, queue, slot, 0], items.none, Err(number))?;
         }
-        world.says(0, [letter, 0, 0, 0], items.x, 0)?;
-        world.says(0, [letter, 0, 0, 0], items.none, 11)?;
+        world.says(0, [letter, 0, 0, 0], items.x, Ok(()))?;
+        world.says(0, [letter, 0, 0, 0], items.none, Err(11))?;
     }
     Ok(())
 }
@@ -307,11 +319,11 @@ fn order_of_votes<K: Entry>(
     items: Items<'_>,
 ) -> Result<(), Fail> {
     world.renew(n, n / 2, w, needed(n, w), items.y)?;
-    world.says(0, [b'F', 0, 1, 0], items.x, 0)?;
+    world.says(0, [b'F', 0, 1, 0], items.x, Ok(()))?;
     world.set(1, Stage::Unopened, 0);
     world.hears(0, &[0x43, 0, 2, 4], 10)?;
-    world.says(0, [b'V', 0, 16, 0], items.x, 10)?;
-    world.says(0, [b'A', 2, 0, 2], items.x, 10)?;
+    world.says(0, [b'V', 0, 16, 0], items.x, Err(10))?;
+    world.says(0, [b'A', 2, 0, 2], items.x, Err(10))?;
     for (e, bit, number) in [
         (0, 1, 12),
         (0, 0, 12),
@@ -320,7 +332,7 @@ fn order_of_votes<K: Entry>(
         (1, 1, 14),
         (1, 0, 15),
     ] {
-        world.says(0, [b'F', e, bit, 0], items.x, number)?;
+        world.says(0, [b'F', e, bit, 0], items.x, Err(number))?;
     }
     Ok(())
 }

@@ -1,7 +1,8 @@
-use common::Refusal;
-use entry::{Entry, Reading};
+// What print writes, and what it declines.
+use crate::worlds::{Cells, Lengths, READINGS, begin, needed, put_at, read};
+use entry::Reading;
 use printing::print;
-use replica::{Page, Replica, Tables};
+use replica::Page;
 use std::process::Abort;
 use std::test::*;
 
@@ -12,21 +13,10 @@ const TWO: &[u8; 92] =
 
 const NONE: &[u8; 51] = b"book;4;0\nepoch;box;slot;house;week;quantity;amount\n";
 
-// The page, where the place is below the count.
-fn below(count: usize, place: usize, page: Page<Reading>) -> Option<Page<Reading>> {
-    if place < count { Some(page) } else { None }
-}
-
 // Prints the file of a replica of 4 with one slot each, whose cells hold `held` pages, `count` of them counted; answers
 // its length, or the number of the refusal.
-fn printed(held: usize, count: u16, out: &mut [u8]) -> Result<usize, u8> {
-    let Some(item) = Reading::read(&[0, 12, 7, 1, 0, 0, 13, 72]) else {
-        return Err(101);
-    };
-    let mut sends: [Option<Reading>; 4] = [None; 4];
-    let mut echoes: [Option<Reading>; 16] = [None; 16];
-    let mut readies: [Option<Reading>; 16] = [None; 16];
-    let mut haves: [Option<Reading>; 16] = [None; 16];
+fn printed(held: usize, count: u16, out: &mut [u8]) -> Result<Result<usize, u8>, Fail> {
+    let item = read::<Reading>(READINGS.x)?;
     let first = Page {
         epoch: 0,
         queue: 0,
@@ -39,54 +29,20 @@ fn printed(held: usize, count: u16, out: &mut [u8]) -> Result<usize, u8> {
         slot: 10,
         item,
     };
-    let mut pages = [
-        below(held, 0, first),
-        below(held, 1, other),
-        below(held, 2, other),
-        below(held, 3, other),
-    ];
-    let tables = Tables::lend(
-        &mut sends,
-        &mut echoes,
-        &mut readies,
-        &mut haves,
-        &mut pages,
-    );
-    let Ok(replica) = made(count) else {
-        return Err(102);
-    };
-    match print(&replica, &tables, out) {
-        Ok(len) => Ok(len),
-        Err(e) => Err(u8::from(e)),
-    }
-}
-
-// The replica 2 of 4 with one slot each, with so many pages counted.
-fn made(count: u16) -> Result<Replica, Refusal> {
-    let mut sends: [Option<Reading>; 4] = [None; 4];
-    let mut echoes: [Option<Reading>; 16] = [None; 16];
-    let mut readies: [Option<Reading>; 16] = [None; 16];
-    let mut haves: [Option<Reading>; 16] = [None; 16];
-    let mut pages: [Option<Page<Reading>>; 4] = [None; 4];
-    let mut tables = Tables::lend(
-        &mut sends,
-        &mut echoes,
-        &mut readies,
-        &mut haves,
-        &mut pages,
-    );
-    let mut replica = Replica::make(4, 2, 1, &mut tables)?;
+    let mut cells = Cells::of(None, needed(4, 1));
+    let mut replica = begin(4, 2, 1, &mut cells)?;
     replica.pages = count;
-    Ok(replica)
+    let pages = [first, other, other, other];
+    for (place, page) in pages.iter().enumerate().take(held) {
+        put_at(&mut cells.pages, place, *page)?;
+    }
+    Ok(print(&replica, &cells.tables(), out).map_err(u8::from))
 }
 
 // The text stands at the front, and behind it what was there.
-fn stands(rt: &impl Abort, out: &[u8], text: &[u8]) -> Result<(), Fail> {
-    for (i, b) in out.iter().enumerate() {
-        let expected = if i < text.len() { text[i] } else { 7 };
-        assert_eq!(rt; *b, expected);
-    }
-    Ok(())
+fn stands(rt: &impl Abort, out: &[u8], text: &[u8]) {
+    assert_eq!(rt; out.get(..text.len()), Some(text));
+    assert!(rt; out.iter().skip(text.len()).all(|b| *b == 7));
 }
 
 fn prints(
@@ -96,19 +52,15 @@ fn prints(
     out: &mut [u8],
     text: &[u8],
 ) -> Result<(), Fail> {
-    match printed(held, count, out) {
-        Ok(len) => assert_eq!(rt; len, text.len()),
-        Err(_) => return Err(Fail::new("declined")),
-    }
-    stands(rt, out, text)
+    assert_eq!(rt; printed(held, count, out)?, Ok(text.len()));
+    stands(rt, out, text);
+    Ok(())
 }
 
 fn declined(rt: &impl Abort, held: usize, count: u16, out: &mut [u8]) -> Result<(), Fail> {
-    match printed(held, count, out) {
-        Ok(_) => return Err(Fail::new("accepted")),
-        Err(number) => assert_eq!(rt; number, 23),
-    }
-    stands(rt, out, &[])
+    assert_eq!(rt; printed(held, count, out)?, Err(23));
+    stands(rt, out, &[]);
+    Ok(())
 }
 
 #[test]
@@ -131,31 +83,16 @@ fn other_counts(rt: HostRuntime) -> Result<(), Fail> {
     declined(&rt, 3, 2, &mut [7; 91])
 }
 
-// What print answers a replica of 4 with tables of these lengths, as a number.
-fn lent(rt: &impl Abort, lengths: [usize; 5], number: u8) -> Result<(), Fail> {
-    let [s, e, r, h, p] = lengths;
-    assert!(rt; s <= 5 && e <= 17 && r <= 17 && h <= 17 && p <= 5);
-    let mut sends: [Option<Reading>; 5] = [None; 5];
-    let mut echoes: [Option<Reading>; 17] = [None; 17];
-    let mut readies: [Option<Reading>; 17] = [None; 17];
-    let mut haves: [Option<Reading>; 17] = [None; 17];
-    let mut pages: [Option<Page<Reading>>; 5] = [None; 5];
-    let tables = Tables::lend(
-        &mut sends[0..s],
-        &mut echoes[0..e],
-        &mut readies[0..r],
-        &mut haves[0..h],
-        &mut pages[0..p],
-    );
-    let Ok(replica) = made(0) else {
-        return Err(Fail::new("not made"));
-    };
+// How print declines with tables of these lengths, for a replica of 4.
+fn lent(rt: &impl Abort, lengths: Lengths, number: u8) -> Result<(), Fail> {
+    let mut cells = Cells::<Reading>::of(None, needed(4, 1));
+    let replica = begin(4, 2, 1, &mut cells)?;
+    cells.lent = lengths;
     let mut out = [7; 20];
-    match print(&replica, &tables, &mut out) {
-        Ok(_) => return Err(Fail::new("accepted")),
-        Err(e) => assert_eq!(rt; u8::from(e), number),
-    }
-    stands(rt, &out, &[])
+    let answer = print(&replica, &cells.tables(), &mut out);
+    assert_eq!(rt; answer.map_err(u8::from), Err(number));
+    stands(rt, &out, &[]);
+    Ok(())
 }
 
 #[test]

@@ -1,38 +1,30 @@
 // Make, and page.
-use crate::worlds::{ALL, Cells, READINGS, alike, begin, lacking, needed, read};
-use entry::{Entry, Reading};
+use crate::worlds::{ALL, Answer, Cells, Lengths, READINGS, begin, front, lacking, needed, read};
+use entry::Reading;
 use replica::{Replica, Stage};
 use std::process::Abort;
 use std::test::*;
 use votes::Votes;
 
-fn wipe<T: Copy>(cells: &mut [Option<T>], count: usize) {
-    for i in 0..count {
-        if i < cells.len() {
-            cells[i] = None;
-        }
-    }
-}
-
-// What make answers with so many cells lent, as a number, and that of cells that were all filled it leaves empty,
-// if it is accepted, those that the set needs, and no other.
-fn makes(rt: &impl Abort, n: u8, me: u8, w: u8, lent: [usize; 5], number: u8) -> Result<(), Fail> {
-    let item = read::<Reading>(READINGS.x)?;
-    let mut cells = Cells::filled(item, lent);
-    let mut want = Cells::filled(item, lent);
-    let mut tables = cells.tables();
-    let answer = match Replica::make(n, me, w, &mut tables) {
-        Ok(_) => 0,
-        Err(e) => u8::from(e),
-    };
-    assert_eq!(rt; answer, number, "{n} {me} {w} {lent:?}");
-    if number == 0 {
-        let [slots, rows, _, _, _] = needed(n, w);
-        wipe(&mut want.sends, slots);
-        wipe(&mut want.echoes, rows);
-        wipe(&mut want.readies, rows);
-        wipe(&mut want.haves, rows);
-        wipe(&mut want.pages, slots);
+// What make answers with so many cells lent, and that of cells that were all filled it leaves empty, if it is
+// accepted, those that the set needs, and no other.
+fn makes(rt: &impl Abort, n: u8, me: u8, w: u8, lent: Lengths, answer: Answer) -> Result<(), Fail> {
+    let item = Some(read::<Reading>(READINGS.x)?);
+    let mut cells = Cells::of(item, lent);
+    let mut want = Cells::of(item, lent);
+    let made = Replica::make(n, me, w, &mut cells.tables());
+    assert_eq!(rt;
+        made.map(|_| ()).map_err(u8::from),
+        answer,
+        "{n} {me} {w} {lent:?}"
+    );
+    if answer.is_ok() {
+        let [s, e, r, h, p] = needed(n, w);
+        front(&mut want.sends, s).fill(None);
+        front(&mut want.echoes, e).fill(None);
+        front(&mut want.readies, r).fill(None);
+        front(&mut want.haves, h).fill(None);
+        front(&mut want.pages, p).fill(None);
     }
     assert!(rt; cells.alike(&want));
     Ok(())
@@ -40,14 +32,13 @@ fn makes(rt: &impl Abort, n: u8, me: u8, w: u8, lent: [usize; 5], number: u8) ->
 
 // Accepted with tables of just the needed lengths and with longer ones, and declined with 4 if one is a cell short.
 fn just_fits(rt: &impl Abort, n: u8, w: u8, slots: usize, rows: usize) -> Result<(), Fail> {
-    assert!(rt; 1 <= slots && 1 <= rows);
-    makes(rt, n, 0, w, [slots, rows, rows, rows, slots], 0)?;
-    makes(rt, n, 3, w, ALL, 0)?;
-    makes(rt, n, 0, w, [slots - 1, rows, rows, rows, slots], 4)?;
-    makes(rt, n, 0, w, [slots, rows - 1, rows, rows, slots], 4)?;
-    makes(rt, n, 0, w, [slots, rows, rows - 1, rows, slots], 4)?;
-    makes(rt, n, 0, w, [slots, rows, rows, rows - 1, slots], 4)?;
-    makes(rt, n, 0, w, [slots, rows, rows, rows, slots - 1], 4)
+    let enough = [slots, rows, rows, rows, slots];
+    makes(rt, n, 0, w, enough, Ok(()))?;
+    makes(rt, n, 3, w, ALL, Ok(()))?;
+    for lent in lacking(enough) {
+        makes(rt, n, 0, w, lent, Err(4))?;
+    }
+    Ok(())
 }
 
 #[test]
@@ -82,15 +73,15 @@ fn numbers_out_of_range(rt: HostRuntime) -> Result<(), Fail> {
         (5, 5, 17, 2),
     ];
     for (n, me, w, number) in rows {
-        makes(&rt, n, me, w, ALL, number)?;
-        makes(&rt, n, me, w, [0; 5], number)?;
+        makes(&rt, n, me, w, ALL, Err(number))?;
+        makes(&rt, n, me, w, [0; 5], Err(number))?;
     }
-    makes(&rt, 4, 0, 1, [0; 5], 4)?;
-    makes(&rt, 16, 15, 16, [0; 5], 4)
+    makes(&rt, 4, 0, 1, [0; 5], Err(4))?;
+    makes(&rt, 16, 15, 16, [0; 5], Err(4))
 }
 
 fn begins(rt: &impl Abort, n: u8, me: u8, w: u8, f: u8, q: u8) -> Result<(), Fail> {
-    let mut cells = Cells::filled(read::<Reading>(READINGS.x)?, ALL);
+    let mut cells = Cells::of(Some(read::<Reading>(READINGS.x)?), ALL);
     let replica = begin(n, me, w, &mut cells)?;
     let set = replica.set;
     assert!(rt; set.n == n && set.me == me && set.w == w && set.f == f && set.q == q);
@@ -103,7 +94,7 @@ fn begins(rt: &impl Abort, n: u8, me: u8, w: u8, f: u8, q: u8) -> Result<(), Fai
         heads: [0; 16],
         pages: 0,
     };
-    assert!(rt; alike(&replica, &want));
+    assert!(rt; replica == want);
     Ok(())
 }
 
@@ -115,45 +106,42 @@ fn as_it_begins(rt: HostRuntime) -> Result<(), Fail> {
 }
 
 // What page answers at a place if so many cells are lent and the book has so many pages, of which those at
-// places 0, 1 and 255 stand in their cells: the refusal's number, or the page's epoch, which is 300 and its place.
+// places 0, 1 and 255 stand in their cells: the page's epoch, which is 300 and its place, or the refusal's number.
 fn asked(
     rt: &impl Abort,
     n: u8,
     w: u8,
-    lent: [usize; 5],
+    lent: Lengths,
     count: u16,
     place: usize,
-    answer: u16,
+    answer: Result<u16, u8>,
 ) -> Result<(), Fail> {
     let item = read::<Reading>(READINGS.x)?;
-    let mut cells = Cells::filled(item, ALL);
+    let mut cells = Cells::of(Some(item), ALL);
     let mut replica = begin(n, 2, w, &mut cells)?;
     for (place, epoch) in [(0, 300), (1, 301), (255, 555)] {
         cells.write(place, epoch, item)?;
     }
     cells.lent = lent;
     replica.pages = count;
-    let tables = cells.tables();
-    let got = match replica.page(&tables, place) {
-        Ok(page) => page.epoch,
-        Err(e) => u16::from(u8::from(e)),
-    };
-    assert_eq!(rt; got, answer, "{n} {w} {lent:?} {count} {place}");
+    let page = replica.page(&cells.tables(), place);
+    let epoch = page.map(|page| page.epoch).map_err(u8::from);
+    assert_eq!(rt; epoch, answer, "{n} {w} {lent:?} {count} {place}");
     Ok(())
 }
 
 #[test]
 fn pages_of_a_book(rt: HostRuntime) -> Result<(), Fail> {
     let rows = [
-        (2, 0, 300),
-        (2, 1, 301),
-        (2, 2, 22),
-        (1, 1, 22),
-        (0, 0, 22),
+        (2, 0, Ok(300)),
+        (2, 1, Ok(301)),
+        (2, 2, Err(22)),
+        (1, 1, Err(22)),
+        (0, 0, Err(22)),
         // an empty cell below the count, and places past the table
-        (4, 2, 22),
-        (300, 299, 22),
-        (2, usize::MAX, 22),
+        (4, 2, Err(22)),
+        (300, 299, Err(22)),
+        (2, usize::MAX, Err(22)),
     ];
     for (count, place, answer) in rows {
         asked(&rt, 4, 1, needed(4, 1), count, place, answer)?;
@@ -161,16 +149,16 @@ fn pages_of_a_book(rt: HostRuntime) -> Result<(), Fail> {
         asked(&rt, 16, 16, needed(16, 16), count, place, answer)?;
         asked(&rt, 16, 16, ALL, count, place, answer)?;
     }
-    asked(&rt, 16, 16, needed(16, 16), 256, 255, 555)?;
-    asked(&rt, 16, 16, needed(16, 16), 255, 255, 22)
+    asked(&rt, 16, 16, needed(16, 16), 256, 255, Ok(555))?;
+    asked(&rt, 16, 16, needed(16, 16), 255, 255, Err(22))
 }
 
 fn short(rt: &impl Abort, n: u8, w: u8) -> Result<(), Fail> {
-    for table in 0..5usize {
-        asked(rt, n, w, lacking(n, w, table), 2, 0, 4)?;
-        asked(rt, n, w, lacking(n, w, table), 2, 5, 4)?;
+    for lent in lacking(needed(n, w)) {
+        asked(rt, n, w, lent, 2, 0, Err(4))?;
+        asked(rt, n, w, lent, 2, 5, Err(4))?;
     }
-    asked(rt, n, w, [0; 5], 0, 0, 4)
+    asked(rt, n, w, [0; 5], 0, 0, Err(4))
 }
 
 #[test]

@@ -1,5 +1,5 @@
 // What submit accepts, the slot that it takes, and what it declines.
-use crate::worlds::{ALL, Items, ORDERS, READINGS, World, lacking, line, made, needed};
+use crate::worlds::{ALL, Items, Lengths, ORDERS, READINGS, World, lacking, line, made, needed};
 use entry::{Entry, Reading, ShareOrder};
 use replica::Stage;
 use std::process::Abort;
@@ -36,9 +36,9 @@ fn slots<K: Entry>(
     world.set(epoch, stage, 0);
     unread(rt, world, items)?;
     for letter in [b'E', b'R', b'H'] {
-        world.says(0, [letter, n / 2, 0, 0], items.y, 0)?;
+        world.says(0, [letter, n / 2, 0, 0], items.y, Ok(()))?;
     }
-    world.says(0, [b'S', 0, 0, 0], items.y, 0)?;
+    world.says(0, [b'S', 0, 0, 0], items.y, Ok(()))?;
     world.holds([b'H', n / 2, 0, 0], items.y)?;
     for slot in 0..w {
         world.takes(items.x, slot)?;
@@ -120,18 +120,18 @@ fn booked<K: Entry>(
 
 fn pages<K: Entry>(world: &mut World<K>, count: u16, item: &[u8]) -> Result<(), Fail> {
     for place in 0..count {
-        world.books(place as usize, item, 0)?;
+        world.books(usize::from(place), item, 0)?;
     }
     Ok(())
 }
 
 // At the last place of a full book, and just past the last page.
 fn last<K: Entry>(world: &mut World<K>, n: u8, w: u8, items: Items<'_>) -> Result<(), Fail> {
-    let count = n as u16 * w as u16;
+    let count = u16::from(n) * u16::from(w);
     let place = count.saturating_sub(1);
     world.renew(n, 0, w, needed(n, w), items.y)?;
     pages(world, place, items.y)?;
-    world.books(place as usize, items.x, count)?;
+    world.books(usize::from(place), items.x, count)?;
     world.declines(items.x, 17)?;
     world.declines(items.y, 17)?;
     past_last(world, place, items)
@@ -148,12 +148,12 @@ fn short<K: Entry>(
     world: &mut World<K>,
     n: u8,
     w: u8,
-    enough: [usize; 5],
+    enough: Lengths,
     items: Items<'_>,
 ) -> Result<(), Fail> {
     world.renew(n, n / 2, w, enough, items.y)?;
-    for table in 0..5usize {
-        world.cells.lent = lacking(n, w, table);
+    for lent in lacking(needed(n, w)) {
+        world.cells.lent = lent;
         world.declines(items.x, 4)?;
         world.declines(items.none, 4)?;
         world.declines(&[], 4)?;

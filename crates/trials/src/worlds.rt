@@ -1,5 +1,4 @@
 // A replica with its cells, called and then compared as a whole with what it should be.
-use common::Refusal;
 use entry::Entry;
 use intake::{hear, submit};
 use replica::{Page, Replica, Set, Stage, Tables};
@@ -9,7 +8,12 @@ use votes::{Marks, Round, Votes};
 pub const LETTERS: [u8; 8] = [b'S', b'E', b'R', b'H', b'V', b'A', b'C', b'F'];
 
 // How many cells there are of sends, echoes, readies, haves and pages.
-pub const ALL: [usize; 5] = [257, 4097, 4097, 4097, 257];
+pub type Lengths = [usize; 5];
+
+pub const ALL: Lengths = [257, 4097, 4097, 4097, 257];
+
+// What a call answers: the number of the refusal, where it declines.
+pub type Answer = Result<(), u8>;
 
 // The bytes of two entries of a kind, and bytes of its width that are none.
 #[derive(Clone, Copy)]
@@ -34,7 +38,7 @@ pub const ORDERS: Items<'static> = Items {
 // Memory for the largest set, with a cell to spare in each table, and how many cells of each are lent.
 #[derive(Drop)]
 pub struct Cells<K> {
-    pub lent: [usize; 5],
+    pub lent: Lengths,
     pub sends: [Option<K>; 257],
     pub echoes: [Option<K>; 4097],
     pub readies: [Option<K>; 4097],
@@ -52,61 +56,39 @@ pub struct World<K> {
 }
 
 pub fn read<K: Entry>(s: &[u8]) -> Result<K, Fail> {
-    match K::read(s) {
-        Some(x) => Ok(x),
-        None => Err(Fail::new("no entry")),
-    }
+    Ok(K::read(s).ok_or("no entry")?)
 }
 
 // How many cells a set needs of each table.
-pub fn needed(n: u8, w: u8) -> [usize; 5] {
-    let slots = n as usize * w as usize;
-    let rows = slots * n as usize;
+pub fn needed(n: u8, w: u8) -> Lengths {
+    let slots = usize::from(n) * usize::from(w);
+    let rows = slots * usize::from(n);
     [slots, rows, rows, rows, slots]
 }
 
-// One cell less than needed in one table.
-pub fn lacking(n: u8, w: u8, table: usize) -> [usize; 5] {
-    let mut lent = needed(n, w);
-    if table < 5 {
-        lent[table] = lent[table].saturating_sub(1);
-    }
-    lent
+// One cell less in one table, for each of the tables.
+pub fn lacking(enough: Lengths) -> [Lengths; 5] {
+    let [s, e, r, h, p] = enough;
+    [
+        [s.saturating_sub(1), e, r, h, p],
+        [s, e.saturating_sub(1), r, h, p],
+        [s, e, r.saturating_sub(1), h, p],
+        [s, e, r, h.saturating_sub(1), p],
+        [s, e, r, h, p.saturating_sub(1)],
+    ]
 }
 
 impl<K: Entry> Cells<K> {
-    // Every cell filled.
-    pub fn filled(item: K, lent: [usize; 5]) -> Cells<K> {
-        let page = Page {
-            epoch: 1,
-            queue: 1,
-            slot: 0,
-            item,
-        };
+    // Every cell filled with an entry, or every cell empty.
+    pub fn of(item: Option<K>, lent: Lengths) -> Cells<K> {
         Cells {
             lent,
-            sends: [Some(item); 257],
-            echoes: [Some(item); 4097],
-            readies: [Some(item); 4097],
-            haves: [Some(item); 4097],
-            pages: [Some(page); 257],
+            sends: [item; 257],
+            echoes: [item; 4097],
+            readies: [item; 4097],
+            haves: [item; 4097],
+            pages: [item.map(|item| page(1, item)); 257],
         }
-    }
-
-    // Fills every cell anew.
-    fn refill(&mut self, item: K, lent: [usize; 5]) {
-        let page = Page {
-            epoch: 1,
-            queue: 1,
-            slot: 0,
-            item,
-        };
-        self.lent = lent;
-        flood(&mut self.sends, item);
-        flood(&mut self.echoes, item);
-        flood(&mut self.readies, item);
-        flood(&mut self.haves, item);
-        flood(&mut self.pages, page);
     }
 
     pub fn tables(&mut self) -> Tables<'_, K> {
@@ -116,90 +98,78 @@ impl<K: Entry> Cells<K> {
         let readies = &mut self.readies;
         let haves = &mut self.haves;
         let pages = &mut self.pages;
-        let sends = &mut sends[..];
-        let echoes = &mut echoes[..];
-        let readies = &mut readies[..];
-        let haves = &mut haves[..];
-        let pages = &mut pages[..];
         Tables::lend(
-            front(sends, s),
-            front(echoes, e),
-            front(readies, r),
-            front(haves, h),
-            front(pages, p),
+            front(&mut sends[..], s),
+            front(&mut echoes[..], e),
+            front(&mut readies[..], r),
+            front(&mut haves[..], h),
+            front(&mut pages[..], p),
         )
     }
 
     // Writes a page at a place.
     pub fn write(&mut self, place: usize, epoch: u16, item: K) -> Result<(), Fail> {
-        if place >= 257 {
-            return Err(Fail::new("out of range"));
-        }
-        self.pages[place] = Some(Page {
-            epoch,
-            queue: 1,
-            slot: 0,
-            item,
-        });
-        Ok(())
+        put_at(&mut self.pages, place, page(epoch, item))
     }
 
     // Fills the cell of a sender's statement with an entry.
     fn hold(&mut self, set: Set, sender: u8, head: [u8; 4], item: &[u8]) -> Result<(), Fail> {
         let [letter, a, b, _] = head;
-        let w = set.w as usize;
-        let own = sender as usize * w + a as usize;
-        let slot = a as usize * w + b as usize;
+        let w = usize::from(set.w);
+        let own = usize::from(sender) * w + usize::from(a);
+        let slot = usize::from(a) * w + usize::from(b);
         let row = slot
-            .wrapping_mul(set.n as usize)
-            .wrapping_add(sender as usize);
+            .wrapping_mul(usize::from(set.n))
+            .wrapping_add(usize::from(sender));
         match letter as char {
-            'S' => fill(&mut self.sends, own, item),
-            'E' => fill(&mut self.echoes, row, item),
-            'R' => fill(&mut self.readies, row, item),
-            'H' => fill(&mut self.haves, row, item),
+            'S' => put_at(&mut self.sends, own, read(item)?),
+            'E' => put_at(&mut self.echoes, row, read(item)?),
+            'R' => put_at(&mut self.readies, row, read(item)?),
+            'H' => put_at(&mut self.haves, row, read(item)?),
             _ => Err(Fail::new("no entry")),
         }
     }
 
     pub fn alike(&self, other: &Cells<K>) -> bool {
-        alike_entries(&self.sends, &other.sends)
-            && alike_entries(&self.echoes, &other.echoes)
-            && alike_entries(&self.readies, &other.readies)
-            && alike_entries(&self.haves, &other.haves)
-            && alike_pages(&self.pages, &other.pages)
+        self.sends == other.sends
+            && self.echoes == other.echoes
+            && self.readies == other.readies
+            && self.haves == other.haves
+            && self.pages == other.pages
     }
 }
 
-fn flood<T: Copy>(cells: &mut [Option<T>], x: T) {
-    for i in 0..cells.len() {
-        if i < cells.len() {
-            cells[i] = Some(x);
-        }
+fn page<K>(epoch: u16, item: K) -> Page<K> {
+    Page {
+        epoch,
+        queue: 1,
+        slot: 0,
+        item,
     }
 }
 
 // The first cells, so many if there are.
-fn front<T: Copy>(cells: &mut [T], count: usize) -> &mut [T] {
-    let len = cells.len();
-    let end = if count < len { count } else { len };
-    &mut cells[0..end]
+pub fn front<T>(cells: &mut [T], count: usize) -> &mut [T] {
+    let end = count.min(cells.len());
+    &mut cells[..end]
+}
+
+// Fills the cell at a place.
+pub fn put_at<T: Copy>(cells: &mut [Option<T>], at: usize, x: T) -> Result<(), Fail> {
+    *cells.get_mut(at).ok_or("out of range")? = Some(x);
+    Ok(())
 }
 
 // A replica made in these cells.
 pub fn begin<K: Entry>(n: u8, me: u8, w: u8, cells: &mut Cells<K>) -> Result<Replica, Fail> {
-    let mut tables = cells.tables();
-    match Replica::make(n, me, w, &mut tables) {
-        Ok(replica) => Ok(replica),
-        Err(e) => Err(Fail::new(u8::from(e))),
-    }
+    Ok(Replica::make(n, me, w, &mut cells.tables())?)
 }
 
 // A replica of four in cells that all hold an entry.
 pub fn made<K: Entry>(old: &[u8]) -> Result<World<K>, Fail> {
-    let item = read::<K>(old)?;
-    let mut cells = Cells::filled(item, ALL);
-    let wanted = Cells::filled(item, ALL);
+    let item = Some(read(old)?);
+    let mut cells = Cells::of(item, ALL);
+    let wanted = Cells::of(item, ALL);
     let replica = begin(4, 0, 1, &mut cells)?;
     Ok(World {
         replica,
@@ -209,129 +179,56 @@ pub fn made<K: Entry>(old: &[u8]) -> Result<World<K>, Fail> {
     })
 }
 
-fn alike_entries<K: Entry>(a: &[Option<K>], b: &[Option<K>]) -> bool {
-    for (x, y) in a.iter().zip(b.iter()) {
-        let same = match x {
-            Some(x) => match y {
-                Some(y) => x == y,
-                None => false,
-            },
-            None => y.is_none(),
-        };
-        if !same {
-            return false;
-        }
-    }
-    true
-}
-
-fn alike_pages<K: Entry>(a: &[Option<Page<K>>], b: &[Option<Page<K>>]) -> bool {
-    for (x, y) in a.iter().zip(b.iter()) {
-        let same = match x {
-            Some(x) => match y {
-                Some(y) => {
-                    x.item == y.item && x.epoch == y.epoch && x.queue == y.queue && x.slot == y.slot
-                }
-                None => false,
-            },
-            None => y.is_none(),
-        };
-        if !same {
-            return false;
-        }
-    }
-    true
-}
-
-fn staged(stage: Stage) -> (u8, u8, bool) {
-    match stage {
-        Stage::Unopened => (0, 0, false),
-        Stage::Open { round, closed } => (1, round, closed),
-        Stage::Awaiting => (2, 0, false),
-    }
-}
-
-// Whether all that a replica holds besides its tables is the same.
-pub fn alike(a: &Replica, b: &Replica) -> bool {
-    a.set.n == b.set.n
-        && a.set.w == b.set.w
-        && a.set.f == b.set.f
-        && a.set.q == b.set.q
-        && a.set.me == b.set.me
-        && a.epoch == b.epoch
-        && staged(a.stage) == staged(b.stage)
-        && a.votes == b.votes
-        && a.past == b.past
-        && a.heads == b.heads
-        && a.pages == b.pages
-}
-
-fn numbered(r: Result<(), Refusal>) -> u8 {
-    match r {
-        Ok(()) => 0,
-        Err(e) => u8::from(e),
-    }
-}
-
 // What hear answers to bytes from a sender, or submit to bytes from none.
 fn answer<K: Entry>(
     replica: &mut Replica,
     cells: &mut Cells<K>,
     sender: Option<u8>,
     s: &[u8],
-) -> u8 {
+) -> Answer {
     let mut tables = cells.tables();
-    match sender {
-        Some(sender) => numbered(hear(replica, &mut tables, sender, s)),
-        None => numbered(submit(replica, &mut tables, s)),
-    }
+    let answer = match sender {
+        Some(sender) => hear(replica, &mut tables, sender, s),
+        None => submit(replica, &mut tables, s),
+    };
+    answer.map_err(u8::from)
 }
 
 impl<K: Entry> World<K> {
     // Makes the replica anew, in cells that all held an old entry.
-    pub fn renew(
-        &mut self,
-        n: u8,
-        me: u8,
-        w: u8,
-        lent: [usize; 5],
-        old: &[u8],
-    ) -> Result<(), Fail> {
-        let item = read::<K>(old)?;
-        self.cells.refill(item, lent);
-        self.wanted.refill(item, lent);
-        let replica = begin(n, me, w, &mut self.cells)?;
-        let want = begin(n, me, w, &mut self.wanted)?;
-        self.replica = replica;
-        self.want = want;
+    pub fn renew(&mut self, n: u8, me: u8, w: u8, lent: Lengths, old: &[u8]) -> Result<(), Fail> {
+        let item = Some(read(old)?);
+        self.cells = Cells::of(item, lent);
+        self.wanted = Cells::of(item, lent);
+        self.replica = begin(n, me, w, &mut self.cells)?;
+        self.want = begin(n, me, w, &mut self.wanted)?;
         Ok(())
     }
 
     // Puts the replica into an epoch and a stage, with so many pages.
     pub fn set(&mut self, epoch: u16, stage: Stage, pages: u16) {
-        let mut replica = self.replica;
-        replica.epoch = epoch;
-        replica.stage = stage;
-        replica.pages = pages;
-        self.replica = replica;
-        let mut want = self.want;
-        want.epoch = epoch;
-        want.stage = stage;
-        want.pages = pages;
-        self.want = want;
+        self.replica = Replica {
+            epoch,
+            stage,
+            pages,
+            ..self.replica
+        };
+        self.want = Replica {
+            epoch,
+            stage,
+            pages,
+            ..self.want
+        };
     }
 
     // What a call answers, after which all is as wanted.
-    fn calls(&mut self, sender: Option<u8>, s: &[u8], number: u8) -> Result<(), Fail> {
-        let mut replica = self.replica;
-        let got = answer(&mut replica, &mut self.cells, sender, s);
-        self.replica = replica;
-        let n = replica.set.n;
-        let w = replica.set.w;
-        let same = alike(&self.replica, &self.want) && self.cells.alike(&self.wanted);
-        if got != number || !same {
+    fn calls(&mut self, sender: Option<u8>, s: &[u8], wanted: Answer) -> Result<(), Fail> {
+        let got = answer(&mut self.replica, &mut self.cells, sender, s);
+        let (n, w) = (self.replica.set.n, self.replica.set.w);
+        let same = self.replica == self.want && self.cells.alike(&self.wanted);
+        if got != wanted || !same {
             return Err(Fail::new(format_args!(
-                "{n}, {w}: {s:?} from {sender:?}: {got} and not {number}, or not as wanted"
+                "{n}, {w}: {s:?} from {sender:?}: {got:?} and not {wanted:?}, or not as wanted"
             )));
         }
         Ok(())
@@ -339,31 +236,35 @@ impl<K: Entry> World<K> {
 
     // Hears bytes that change nothing.
     pub fn hears(&mut self, sender: u8, s: &[u8], number: u8) -> Result<(), Fail> {
-        self.calls(Some(sender), s, number)
+        self.calls(Some(sender), s, Err(number))
     }
 
-    // Hears a statement: declined with a number, or with 0 accepted, which fills its cell and no other.
-    pub fn says(&mut self, sender: u8, head: [u8; 4], item: &[u8], number: u8) -> Result<(), Fail> {
+    // Hears a statement: declined, or accepted, which fills its cell and no other.
+    pub fn says(
+        &mut self,
+        sender: u8,
+        head: [u8; 4],
+        item: &[u8],
+        wanted: Answer,
+    ) -> Result<(), Fail> {
         let (bytes, len) = line(head, item)?;
-        if len > 16 {
-            return Err(Fail::new("out of range"));
-        }
-        if number == 0 {
+        if wanted.is_ok() {
             self.put(sender, head, item)?;
         }
-        self.calls(Some(sender), &bytes[0..len], number)
+        let s = bytes.get(..len).ok_or("out of range")?;
+        self.calls(Some(sender), s, wanted)
     }
 
     // Submits bytes that are declined.
     pub fn declines(&mut self, s: &[u8], number: u8) -> Result<(), Fail> {
-        self.calls(None, s, number)
+        self.calls(None, s, Err(number))
     }
 
     // Submits an entry that is taken for a slot.
     pub fn takes(&mut self, item: &[u8], slot: u8) -> Result<(), Fail> {
         let me = self.want.set.me;
         self.put(me, [b'S', slot, 0, 0], item)?;
-        self.calls(None, item, 0)
+        self.calls(None, item, Ok(()))
     }
 
     // Holds an own statement with an entry, as if it was stated before.
@@ -375,12 +276,10 @@ impl<K: Entry> World<K> {
 
     // Writes an entry on a page, and has so many pages.
     pub fn books(&mut self, place: usize, item: &[u8], count: u16) -> Result<(), Fail> {
-        let item = read::<K>(item)?;
+        let item = read(item)?;
         self.cells.write(place, 1, item)?;
         self.wanted.write(place, 1, item)?;
-        let stage = self.want.stage;
-        let epoch = self.want.epoch;
-        self.set(epoch, stage, count);
+        self.set(self.want.epoch, self.want.stage, count);
         Ok(())
     }
 
@@ -392,26 +291,21 @@ impl<K: Entry> World<K> {
         match letter as char {
             'V' => mark(&mut round_of(votes, b)?.values, sender, c == 0, c == 1),
             'A' => mark(&mut round_of(votes, b)?.seens, sender, c == 0, c == 1),
-            'C' => mark(&mut round_of(votes, b)?.confirms, sender, c % 2 == 1, c >= 2),
+            'C' => mark(
+                &mut round_of(votes, b)?.confirms,
+                sender,
+                c % 2 == 1,
+                c >= 2,
+            ),
             'F' => mark(&mut votes.finish, sender, b == 0, b == 1),
             _ => self.wanted.hold(set, sender, head, item),
         }
     }
 }
 
-fn fill<K: Entry>(cells: &mut [Option<K>], at: usize, item: &[u8]) -> Result<(), Fail> {
-    if at >= cells.len() {
-        return Err(Fail::new("out of range"));
-    }
-    cells[at] = Some(read::<K>(item)?);
-    Ok(())
-}
-
 fn round_of(votes: &mut Votes, round: u8) -> Result<&mut Round, Fail> {
-    if round >= 16 {
-        return Err(Fail::new("out of range"));
-    }
-    Ok(&mut votes.rounds[round as usize])
+    let rounds = &mut votes.rounds;
+    Ok(rounds.get_mut(usize::from(round)).ok_or("out of range")?)
 }
 
 fn mark(marks: &mut Marks, sender: u8, zero: bool, one: bool) -> Result<(), Fail> {
@@ -430,26 +324,20 @@ fn mark(marks: &mut Marks, sender: u8, zero: bool, one: bool) -> Result<(), Fail
 
 // The bytes of a statement, and how many they are: as much of a head as its letter has, and its entry, if it has one.
 pub fn line(head: [u8; 4], item: &[u8]) -> Result<([u8; 16], usize), Fail> {
-    let (mut len, entry) = match head[0] as char {
-        'S' => (2, true),
-        'E' | 'R' | 'H' => (3, true),
-        'F' => (3, false),
-        _ => (4, false),
+    let (count, item) = match head[0] as char {
+        'S' => (2, item),
+        'E' | 'R' | 'H' => (3, item),
+        'F' => (3, &item[..0]),
+        _ => (4, &item[..0]),
     };
     let mut bytes = [0; 16];
-    for i in 0..4usize {
-        if i < len {
-            bytes[i] = head[i];
-        }
+    let len = item.len().saturating_add(count);
+    if len > bytes.len() {
+        return Err(Fail::new("out of range"));
     }
-    if entry {
-        for b in item {
-            if len >= 16 {
-                return Err(Fail::new("out of range"));
-            }
-            bytes[len] = *b;
-            len += 1;
-        }
+    let said = head.iter().take(count).chain(item.iter());
+    for (b, x) in bytes.iter_mut().zip(said) {
+        *b = *x;
     }
     Ok((bytes, len))
 }
