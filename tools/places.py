@@ -65,12 +65,21 @@ def repeated():
     return [f"{what}, in {len(fs)}" for d in (clauses, together) for what, fs in sorted(d.items()) if len(fs) >= 3]
 
 
-def proofs():
+def answers():
     found = []
     for path in sorted(glob.glob("crates/*/proofs/**/*.antt", recursive=True)):
         for at, line in enumerate(open(path).read().split("\n"), 1):
-            if re.search(r"= (search rules|grind \(arith, common_steps\)|omega arith)$", line):
+            if re.match(r"(abbrev )?pub [^ ]+ : goal\.", line):
                 found.append(f"{path}:{at}: {line}")
+    return found
+
+
+def lemmas():
+    found = []
+    for path in sorted(glob.glob("crates/*/proofs/*.antt")):
+        for at, line in enumerate(open(path).read().split("\n"), 1):
+            if re.match(r" *(abbrev )?(pub )?(abbrev |unfoldable )?[a-zA-Z_][^ ]* : ", line):
+                found.append(f"{path}:{at}: {line.strip()}")
     return found
 
 
@@ -88,7 +97,8 @@ POINTS = {
     "5 repeated": repeated,
     "6 buffers": lambda: lines(r"\[[^\[\]]+; ?\w+\]", False),
     "7 switches": lambda: lines(r"match .* % |\bdyn |\bFn\(|\bfn\(", False),
-    "8 answers": proofs,
+    "8 answers": answers,
+    "8 lemmas": lemmas,
 }
 
 if __name__ == "__main__":
