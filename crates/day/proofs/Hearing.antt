@@ -6,7 +6,6 @@ use Rattle.wire.specs.Frames as frames
 use Rattle.wire.specs.Steps.{Step, steps_from, steps_of, Inside}
 use Rattle.wire.proofs.Walking.{Piece, first_piece, next_first, walk_first}
 use Rattle.day.specs.Days.{Run, noted, refused_line, heard_at, onward, frame_from, frame_of, heard_all, Heard}
-use Rattle.day.proofs.Turning.{turn}
 
 -- the next statement has bytes, and lies inside the frame
 inside : (w : ℕ) (s : List ℕ) (p : ℕ) → p ≤ length s → (t : List ℕ) → next_of w s p ≡ Ok (Some t) → (1 ≤ length t) × (p + length t ≤ length s)
@@ -71,4 +70,4 @@ pub step_on : (w : ℕ) (valid : List ℕ → Bool) (j b n : ℕ) (x : Step) (xs
     → xs ≡ x ∷ more → after ≡ step_heard w valid j b r x
     → All (Inside n) xs × (fold (step_heard w valid j b) r xs ≡ all) → All (Inside n) more × (fold (step_heard w valid j b) after more ≡ all)
 step_on w valid j b n x xs more r after all first e rest =
-    (All-rest (Inside n) x more xs first rest.0, turn (step_heard w valid j b) x xs more r after all first e rest.1)
+    (All-rest (Inside n) x more xs first rest.0, ap (λ s. fold (step_heard w valid j b) s more) e ∙ sym (ap (fold (step_heard w valid j b) r) first) ∙ rest.1)

@@ -1,3 +1,2 @@
-pub mod Turning
 pub mod Cutting
 pub mod Hearing

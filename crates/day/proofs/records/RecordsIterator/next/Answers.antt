@@ -15,8 +15,7 @@ returns-in_default-clause-steps c =
 
 pub returns-in_default-clause-goes : goal.returns-in_default-clause-goes
 returns-in_default-clause-goes c =
-    let last = torn_left c.self.inside.day.now c.self.inside.place (sym c.record_at.ensures.cut ∙ ap cut_of c.in_default.is) in
-    let fewer = ap length (sym c.self.view_is ∙ last) in
+    let fewer = ap length (returns-in_default-clause-steps c) in
     search rules
 
 pub returns-clause-steps : goal.returns-clause-steps
@@ -27,7 +26,5 @@ returns-clause-steps c =
 
 pub returns-clause-goes : goal.returns-clause-goes
 returns-clause-goes c =
-    let x = c.in-Some.record in
-    let next = more_left c.self.inside.day.now c.self.inside.place x.sender x.bytes.now (sym c.record_at.ensures.cut ∙ ap cut_of c.in-Some.is) in
-    let fewer = ap length (sym c.self.view_is ∙ next) in
+    let fewer = ap length (returns-clause-steps c) in
     search rules
