@@ -87,15 +87,14 @@ fn makes(
     wanted: Result<(usize, usize), u8>,
 ) -> Result<(), Fail> {
     let mut cells = Cells::of(Some(reading()?), lent);
-    let mut tables = cells.tables()?;
-    let made = Replica::make(n, me, w, &mut tables);
+    let made = Replica::make(n, me, w, &mut cells.tables()?);
     assert_eq!(rt; made.err().map(u8::from), wanted.err());
     let (slots, rows) = wanted.unwrap_or((0, 0));
-    filled_from(rt, tables.sends.as_slice(), slots);
-    filled_from(rt, tables.echoes.as_slice(), rows);
-    filled_from(rt, tables.readies.as_slice(), rows);
-    filled_from(rt, tables.haves.as_slice(), rows);
-    filled_from(rt, tables.pages.as_slice(), slots);
+    filled_from(rt, &cells.sends, slots);
+    filled_from(rt, &cells.echoes, rows);
+    filled_from(rt, &cells.readies, rows);
+    filled_from(rt, &cells.haves, rows);
+    filled_from(rt, &cells.pages, slots);
     Ok(())
 }
 
