@@ -43,9 +43,7 @@ fn places(replica: &Replica) -> usize
     ensures { (t : Store) → result ≡ length (board replica.now t) }
 {
     let set = &replica.set;
-    let w = set.w as usize;
-    let rows = set.n as usize * w;
-    w + 3 * rows + EPOCHS as usize + 4 * ROUNDS as usize
+    set.w as usize + 3 * set.grid().slots() + EPOCHS as usize + 4 * ROUNDS as usize
 }
 
 // What stands at the place `i`.

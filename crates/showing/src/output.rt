@@ -74,8 +74,6 @@ fn write_out<K: Entry>(
 {
     let lent = replica.fitted(tables)?;
     let board = Board { lent, place: 0 };
-    let Some(rest) = skip(board, number) else {
-        return Err(Refusal::Number);
-    };
+    let rest = skip(board, number).ok_or(Refusal::Number)?;
     lay(rest, number, out)
 }

@@ -36,7 +36,7 @@ pub fn entry_at<K: Entry, F: Fn(u8, u8, K) -> Claim<K>>(
     requires callable { F.IsAlwaysCallable claim }
     ensures { (st : ℕ → ℕ → List ℕ → Stmt (List ℕ)) → Makes K.bytes (F.post claim) st → option_map (claim_of K.bytes) result ≡ own_row set.now (map (option_map K.bytes) table.now) st j }
 {
-    let w = set.w as usize;
-    let item = table.get(j * set.n as usize + set.me as usize)?;
+    let w = usize::from(set.w);
+    let item = table.get(j * usize::from(set.n) + usize::from(set.me))?;
     Some(claim((j / w) as u8, (j % w) as u8, item))
 }
