@@ -9,6 +9,9 @@ type Lengths = [usize; 5];
 
 const ALL: Lengths = [300; 5];
 
+// What the replica of 4 with one slot each needs.
+const SMALLEST: Lengths = [4, 16, 16, 16, 4];
+
 // Memory for the sets below, and how many cells of each table are lent.
 #[derive(Drop)]
 struct Cells {
@@ -64,6 +67,18 @@ fn front<T>(cells: &mut [T], count: usize) -> Result<&mut [T], Fail> {
     Ok(cells.get_mut(..count).ok_or("too few cells")?)
 }
 
+// One cell less in one table, for each of the tables.
+fn lacking(enough: Lengths) -> [Lengths; 5] {
+    let [s, e, r, h, p] = enough;
+    [
+        [s.saturating_sub(1), e, r, h, p],
+        [s, e.saturating_sub(1), r, h, p],
+        [s, e, r.saturating_sub(1), h, p],
+        [s, e, r, h.saturating_sub(1), p],
+        [s, e, r, h, p.saturating_sub(1)],
+    ]
+}
+
 // Any reading.
 fn reading() -> Result<Reading, Fail> {
     Ok(Reading::read(&[0, 12, 7, 1, 0, 0, 13, 72]).ok_or("no reading")?)
@@ -100,15 +115,14 @@ fn makes(
 
 // Accepted with tables of just these lengths and with longer ones, and declined with 4 if one is a cell short.
 fn just_fits(rt: &impl Abort, n: u8, w: u8, slots: usize, rows: usize) -> Result<(), Fail> {
-    assert!(rt; 1 <= slots && 1 <= rows);
-    let enough = Ok((slots, rows));
-    makes(rt, n, 0, w, [slots, rows, rows, rows, slots], enough)?;
-    makes(rt, n, 3, w, ALL, enough)?;
-    makes(rt, n, 0, w, [slots - 1, rows, rows, rows, slots], Err(4))?;
-    makes(rt, n, 0, w, [slots, rows - 1, rows, rows, slots], Err(4))?;
-    makes(rt, n, 0, w, [slots, rows, rows - 1, rows, slots], Err(4))?;
-    makes(rt, n, 0, w, [slots, rows, rows, rows - 1, slots], Err(4))?;
-    makes(rt, n, 0, w, [slots, rows, rows, rows, slots - 1], Err(4))
+    let enough = [slots, rows, rows, rows, slots];
+    let cleared = Ok((slots, rows));
+    makes(rt, n, 0, w, enough, cleared)?;
+    makes(rt, n, 3, w, ALL, cleared)?;
+    for lent in lacking(enough) {
+        makes(rt, n, 0, w, lent, Err(4))?;
+    }
+    Ok(())
 }
 
 fn declined(rt: &impl Abort, n: u8, me: u8, w: u8, number: u8) -> Result<(), Fail> {
@@ -153,7 +167,7 @@ fn first_check_first(rt: HostRuntime) -> Result<(), Fail> {
 
 // The replica 2 of 4 with one slot each, made in tables of just the lengths it needs.
 fn made() -> Result<Replica, Fail> {
-    let mut cells = Cells::of(None, [4, 16, 16, 16, 4]);
+    let mut cells = Cells::of(None, SMALLEST);
     Ok(Replica::make(4, 2, 1, &mut cells.tables()?)?)
 }
 
@@ -212,25 +226,23 @@ fn asked(
 
 #[test]
 fn pages_of_a_book(rt: HostRuntime) -> Result<(), Fail> {
-    asked(&rt, [4, 16, 16, 16, 4], 2, 0, Ok(100))?;
-    asked(&rt, [4, 16, 16, 16, 4], 2, 1, Ok(101))?;
+    asked(&rt, SMALLEST, 2, 0, Ok(100))?;
+    asked(&rt, SMALLEST, 2, 1, Ok(101))?;
     asked(&rt, [20, 20, 20, 20, 20], 2, 1, Ok(101))?;
-    asked(&rt, [4, 16, 16, 16, 4], 2, 2, Err(22))?;
-    asked(&rt, [4, 16, 16, 16, 4], 1, 1, Err(22))?;
-    asked(&rt, [4, 16, 16, 16, 4], 0, 0, Err(22))?;
+    asked(&rt, SMALLEST, 2, 2, Err(22))?;
+    asked(&rt, SMALLEST, 1, 1, Err(22))?;
+    asked(&rt, SMALLEST, 0, 0, Err(22))?;
     // empty cells below the count, and places past the table
-    asked(&rt, [4, 16, 16, 16, 4], 4, 2, Err(22))?;
-    asked(&rt, [4, 16, 16, 16, 4], 300, 200, Err(22))?;
-    asked(&rt, [4, 16, 16, 16, 4], 2, usize::MAX, Err(22))
+    asked(&rt, SMALLEST, 4, 2, Err(22))?;
+    asked(&rt, SMALLEST, 300, 200, Err(22))?;
+    asked(&rt, SMALLEST, 2, usize::MAX, Err(22))
 }
 
 #[test]
 fn pages_of_short_tables(rt: HostRuntime) -> Result<(), Fail> {
-    asked(&rt, [3, 16, 16, 16, 4], 2, 0, Err(4))?;
-    asked(&rt, [4, 15, 16, 16, 4], 2, 0, Err(4))?;
-    asked(&rt, [4, 16, 15, 16, 4], 2, 0, Err(4))?;
-    asked(&rt, [4, 16, 16, 15, 4], 2, 0, Err(4))?;
-    asked(&rt, [4, 16, 16, 16, 3], 2, 0, Err(4))?;
+    for lent in lacking(SMALLEST) {
+        asked(&rt, lent, 2, 0, Err(4))?;
+    }
     asked(&rt, [0, 0, 0, 0, 0], 0, 0, Err(4))?;
     asked(&rt, [4, 16, 16, 16, 3], 2, 5, Err(4))
 }

@@ -11,9 +11,11 @@ use listing::record;
 use printing::print;
 use replica::{Replica, Tables};
 use showing::show;
-use std::env;
+use std::alloc::{AllocError, Global};
 use std::io::{Read, Write};
 use std::process::ExitCode;
+use std::str::FromStr;
+use std::{env, io};
 
 const USAGE: &str = "usage: dayview reading|order N OWN W < day";
 
@@ -31,6 +33,21 @@ enum Kind {
     Order,
 }
 
+#[derive(Drop)]
+struct UnknownKind;
+
+impl FromStr for Kind {
+    type Err = UnknownKind;
+
+    fn from_str(name: &str) -> Result<Kind, UnknownKind> {
+        match name {
+            "reading" => Ok(Kind::Reading),
+            "order" => Ok(Kind::Order),
+            _ => Err(UnknownKind),
+        }
+    }
+}
+
 // What the arguments say.
 #[derive(Clone, Copy)]
 struct Options {
@@ -45,14 +62,10 @@ struct Options {
 impl Options {
     fn read(mut args: env::Args) -> Option<Options> {
         let _program = args.next();
-        let kind = match args.next()?.as_str() {
-            "reading" => Kind::Reading,
-            "order" => Kind::Order,
-            _ => return None,
-        };
-        let boxes = number(args.next())?;
-        let own = number(args.next())?;
-        let slots = number(args.next())?;
+        let kind = args.next()?.parse().ok()?;
+        let boxes = args.next()?.parse().ok()?;
+        let own = args.next()?.parse().ok()?;
+        let slots = args.next()?.parse().ok()?;
         if args.next().is_some() {
             return None;
         }
@@ -65,8 +78,28 @@ impl Options {
     }
 }
 
-fn number(arg: Option<String>) -> Option<u8> {
-    arg?.as_str().parse().ok()
+// Why a view ends early.
+enum Stop {
+    Refused(Refusal),
+    Failed(io::Error),
+}
+
+impl From<Refusal> for Stop {
+    fn from(refusal: Refusal) -> Stop {
+        Stop::Refused(refusal)
+    }
+}
+
+impl From<io::Error> for Stop {
+    fn from(error: io::Error) -> Stop {
+        Stop::Failed(error)
+    }
+}
+
+impl From<AllocError> for Stop {
+    fn from(error: AllocError) -> Stop {
+        Stop::Failed(io::Error::from(error))
+    }
 }
 
 fn main(rt: HostRuntime) -> anyhow::Result<ExitCode> {
@@ -74,14 +107,19 @@ fn main(rt: HostRuntime) -> anyhow::Result<ExitCode> {
         eprintln!(rt; "{USAGE}")?;
         return Ok(ExitCode::FAILURE);
     };
-    match options.kind {
-        Kind::Reading => view::<Reading>(&rt, options)?,
-        Kind::Order => view::<ShareOrder>(&rt, options)?,
+    let viewed = match options.kind {
+        Kind::Reading => view::<Reading>(&rt, options),
+        Kind::Order => view::<ShareOrder>(&rt, options),
+    };
+    match viewed {
+        Ok(()) => {}
+        Err(Stop::Refused(refusal)) => println!(rt; "refused;{refusal}")?,
+        Err(Stop::Failed(error)) => return Err(error.into()),
     }
     Ok(ExitCode::SUCCESS)
 }
 
-fn view<K: Entry>(rt: &HostRuntime, options: Options) -> anyhow::Result<()> {
+fn view<K: Entry>(rt: &HostRuntime, options: Options) -> Result<(), Stop> {
     let heap = rt.alloc();
     let mut sends = vec![in heap; None; SLOTS]?;
     let mut echoes = vec![in heap; None; ROWS]?;
@@ -95,57 +133,40 @@ fn view<K: Entry>(rt: &HostRuntime, options: Options) -> anyhow::Result<()> {
         &mut haves,
         &mut pages,
     );
-    match Replica::make(options.boxes, options.own, options.slots, &mut tables) {
-        Ok(mut replica) => told(rt, &mut replica, &mut tables),
-        Err(refusal) => refused(rt, refusal),
-    }
+    let mut replica = Replica::make(options.boxes, options.own, options.slots, &mut tables)?;
+    tell(rt, &mut replica, &mut tables)
 }
 
-fn told<K: Entry>(
+fn tell<K: Entry>(
     rt: &HostRuntime,
     replica: &mut Replica,
     tables: &mut Tables<'_, K>,
-) -> anyhow::Result<()> {
+) -> Result<(), Stop> {
     let heap = rt.alloc();
+    let mut out = rt.stdout();
     let mut day = Vec::new(heap);
     rt.stdin().read_to_end(&mut day)?;
     let lines = replay(replica, tables, heap, &day)?;
-    rt.stdout().write_all(&lines)?;
-    board(rt, replica, tables)?;
-    file(rt, replica, tables)
-}
-
-fn board<K: Entry>(
-    rt: &HostRuntime,
-    replica: &Replica,
-    tables: &Tables<'_, K>,
-) -> anyhow::Result<()> {
-    let heap = rt.alloc();
-    let mut frame = vec![in heap; 0u8; ROOM]?;
-    match show(replica, tables, 0, &mut frame) {
-        Ok(shown) => frame.truncate(shown.bytes),
-        Err(refusal) => return refused(rt, refusal),
-    }
-    let text = record::<K>(heap, &frame)?;
-    rt.stdout().write_all(&text)?;
+    out.write_all(&lines)?;
+    let frame = filled(heap, |buffer| {
+        show(replica, tables, 0, buffer).map(|shown| shown.bytes)
+    })?;
+    let board = record::<K>(heap, &frame)?;
+    out.write_all(&board)?;
+    let file = filled(heap, |buffer| print(replica, tables, buffer))?;
+    out.write_all(&file)?;
     Ok(())
 }
 
-fn file<K: Entry>(
-    rt: &HostRuntime,
-    replica: &Replica,
-    tables: &Tables<'_, K>,
-) -> anyhow::Result<()> {
-    let mut text = vec![in rt.alloc(); 0u8; ROOM]?;
-    match print(replica, tables, &mut text) {
-        Ok(len) => text.truncate(len),
-        Err(refusal) => return refused(rt, refusal),
-    }
-    rt.stdout().write_all(&text)?;
-    Ok(())
-}
-
-fn refused(rt: &HostRuntime, refusal: Refusal) -> anyhow::Result<()> {
-    println!(rt; "refused;{refusal}")?;
-    Ok(())
+// The bytes that a call writes into a buffer; it answers how many they are.
+fn filled<F: FnOnce(&mut [u8]) -> Result<usize, Refusal>>(
+    heap: Global,
+    write: F,
+) -> Result<Vec<u8>, Stop>
+    requires { F.IsAlwaysCallable write }
+{
+    let mut bytes = vec![in heap; 0u8; ROOM]?;
+    let count = write(&mut bytes)?;
+    bytes.truncate(count);
+    Ok(bytes)
 }
