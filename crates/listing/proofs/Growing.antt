@@ -2,17 +2,11 @@
 use Rattle.std.proofs.Common.{◌≡◌, ℕ, ◌+◌, ◌<◌, ◌≤◌, List, [], ◌∷◌, ◌++◌, map, length, get_or, take, None, Option, sym, refl, ap, ◌∙◌, append_assoc, append-nil, add-one, take-take, length-append, arith}
 use Rattle.std.proofs.lemmas.List.{map_more, map_push, take_at}
 use Rattle.std.specs.List.{slice_get}
-use Rattle.listing.specs.Rows.{text_of, following, padded, Kept}
+use Rattle.listing.specs.Rows.{text_of, following, padded}
 
 -- what was added to what had been added
 pub then_more : {X : Type 0} {now mid : List X} (was xs ys : List X) → mid ≡ was ++ xs → now ≡ mid ++ ys → now ≡ was ++ (xs ++ ys)
 then_more was xs ys a b = b ∙ ap (λ l. l ++ ys) a ∙ append_assoc was xs ys
-
--- what stood in front of what was added
-pub kept_on : (was xs mid now : List ℕ) → mid ≡ was ++ xs → Kept mid now → Kept was now
-kept_on was xs mid now a k =
-    let fewer : length was ≤ length mid = omega (arith, ap length a ∙ length-append was xs) in
-    sym (take-take (length was) (length mid) now fewer) ∙ ap (take (length was)) (k ∙ a) ∙ take_at was xs (length was) refl
 
 pub following_push : (ts : List (List ℕ)) (t : List ℕ) → following (ts ++ (t ∷ [])) ≡ following ts ++ (59 ∷ t)
 following_push [] t = ap (λ l. 59 ∷ l) (append-nil t)

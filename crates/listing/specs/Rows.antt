@@ -65,7 +65,3 @@ row_of k p m =
     ++ (following ((byte_of (letter_in m) ∷ []) ∷ says_of (letter_in m) ∷ [])
     ++ (following (map text_of (operands_of m))
     ++ (following (map text_of (padded (breadth_of k.heading) (numbers_of k.columns (item_in m)))) ++ (10 ∷ []))))
-
--- what stood before still stands in front
-abbrev pub Kept : List ℕ → List ℕ → Type 0
-Kept was now = take (length was) now ≡ was

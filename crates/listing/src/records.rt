@@ -1,5 +1,5 @@
 ghost use Rattle.std.specs.Prelude.{◌≡◌, ◌++◌, IfOk, OnOk};
-ghost use Rattle.listing.specs.Rows.{kind_of, Kept};
+ghost use Rattle.listing.specs.Rows.{kind_of};
 ghost use Rattle.listing.specs.Lists.{Accounts};
 ghost use Rattle.listing.specs.Records.{note_of, heading_of, fault_in, fault_of, record_of};
 
@@ -31,8 +31,7 @@ fn assembled<K: Entry>(heap: Global, frame: &[u8]) -> Result<Vec<u8>, AllocError
 
 // A row of a word and two numbers.
 fn push_note(out: &mut Vec<u8>, word: &[u8], a: usize, b: usize) -> Result<(), AllocError>
-    ensures value { OnOk result (out.new.items ≡ out.old.items ++ note_of word.now a b) }
-    ensures kept { Kept out.old.items out.new.items }
+    ensures { OnOk result (out.new.items ≡ out.old.items ++ note_of word.now a b) }
 {
     out.extend_from_slice(word)?;
     push_cell(out, Some(a))?;
@@ -42,8 +41,7 @@ fn push_note(out: &mut Vec<u8>, word: &[u8], a: usize, b: usize) -> Result<(), A
 }
 
 fn push_heading<K: Entry>(out: &mut Vec<u8>) -> Result<(), AllocError>
-    ensures value { OnOk result (out.new.items ≡ out.old.items ++ heading_of K.heading) }
-    ensures kept { Kept out.old.items out.new.items }
+    ensures { OnOk result (out.new.items ≡ out.old.items ++ heading_of K.heading) }
 {
     out.extend_from_slice(b"place;letter;says;queue;slot;epoch;round;bit;set;")?;
     out.extend_from_slice(K::names())?;
@@ -52,8 +50,7 @@ fn push_heading<K: Entry>(out: &mut Vec<u8>) -> Result<(), AllocError>
 }
 
 fn push_fault(out: &mut Vec<u8>, fault: Option<Fault>) -> Result<(), AllocError>
-    ensures value { OnOk result (out.new.items ≡ out.old.items ++ fault_of (fault_in fault)) }
-    ensures kept { Kept out.old.items out.new.items }
+    ensures { OnOk result (out.new.items ≡ out.old.items ++ fault_of (fault_in fault)) }
 {
     let Some(Fault { refusal, place }) = fault else {
         return Ok(());

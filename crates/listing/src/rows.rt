@@ -4,7 +4,7 @@ ghost use Rattle.std.specs.List.{slice_get};
 ghost use Rattle.common.specs.Refusals.{number_of};
 ghost use Rattle.entry.specs.Columns.{breadth_of};
 ghost use Rattle.wire.specs.Statements.{message_of};
-ghost use Rattle.listing.specs.Rows.{kind_of, says_of, operands_of, numbers_of, padded, text_of, following, row_of, Kept};
+ghost use Rattle.listing.specs.Rows.{kind_of, says_of, operands_of, numbers_of, padded, text_of, following, row_of};
 ghost use Rattle.listing.specs.Lists.{part_read};
 
 use crate::cells::{push_cell, push_cells, push_number, push_word};
@@ -77,8 +77,7 @@ pub fn breadth<K: Entry>() -> usize
 
 // The columns of an entry, each behind a semicolon, or as many empty ones.
 fn push_columns<K: Entry>(out: &mut Vec<u8>, entry: Option<K>) -> Result<(), AllocError>
-    ensures value { OnOk result (out.new.items ≡ out.old.items ++ following (map text_of (padded (breadth_of K.heading) (numbers_of K.columns (option_map K.bytes entry))))) }
-    ensures kept { Kept out.old.items out.new.items }
+    ensures { OnOk result (out.new.items ≡ out.old.items ++ following (map text_of (padded (breadth_of K.heading) (numbers_of K.columns (option_map K.bytes entry))))) }
 {
     for i in 0..breadth::<K>() {
         push_cell(out, column(&entry, i))?;
@@ -116,8 +115,7 @@ impl<'a, K: Entry> Row<'a, K> {
 
     // Puts the row behind others.
     pub fn push(self, out: &mut Vec<u8>) -> Result<(), AllocError>
-        ensures value { OnOk result (out.new.items ≡ out.old.items ++ row_of (kind_of K.WIDTH K.valid K.heading K.columns) self.entry.place (message_of self.entry.statement)) }
-        ensures kept { Kept out.old.items out.new.items }
+        ensures { OnOk result (out.new.items ≡ out.old.items ++ row_of (kind_of K.WIDTH K.valid K.heading K.columns) self.entry.place (message_of self.entry.statement)) }
     {
         let letter = self.statement.letter();
         push_number(out, self.place)?;

@@ -43,7 +43,7 @@ loop-step-preserved g c =
     let row = c.in-Ok.row in (
       omega (arith, l.invariant.0, ap length steps),
       whole_after k rows l.count more step (subst (λ l. Statements k.width (parts_in l)) steps l.invariant.1),
-      rw c.in_ok-push-in-Ok.ensures.value (
+      rw c.in_ok-push-in-Ok.ensures (
           sym (at_row k rows l.count more step row.place (message_of row.statement) (search rules))
           ∙ ap (λ x. behind rows l.count (listed k x)) (sym steps) ∙ l.invariant.2
           ),
