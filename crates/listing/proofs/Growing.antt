@@ -1,6 +1,6 @@
 -- Text that grows at its end.
-use Rattle.std.proofs.Common.{◌≡◌, ℕ, ◌+◌, ◌<◌, ◌≤◌, List, [], ◌∷◌, ◌++◌, map, length, get_or, take, None, Option, sym, refl, ap, ◌∙◌, append_assoc, append-nil, add-one, take-take, length-append, arith}
-use Rattle.std.proofs.lemmas.List.{map_more, map_push, take_at}
+use Rattle.std.proofs.Common.{◌≡◌, ℕ, ◌+◌, ◌<◌, List, [], ◌∷◌, ◌++◌, map, length, get_or, take, None, Option, sym, ap, ◌∙◌, append_assoc, append-nil, add-one}
+use Rattle.std.proofs.lemmas.List.{map_more, map_push}
 use Rattle.std.specs.List.{slice_get}
 use Rattle.listing.specs.Rows.{text_of, following, padded}
 

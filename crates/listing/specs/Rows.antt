@@ -1,5 +1,5 @@
 -- A statement as a row of a table.
-use Rattle.std.specs.Prelude.{◌≡◌, ℕ, zero, suc, Bool, List, [], ◌∷◌, ◌++◌, map, take, length, Some, None, codes, decimal, Option}
+use Rattle.std.specs.Prelude.{ℕ, zero, suc, Bool, List, [], ◌∷◌, ◌++◌, map, Some, None, codes, decimal, Option}
 use Rattle.std.specs.List.{slice_get}
 use Rattle.entry.specs.Columns.{breadth_of}
 use Rattle.wire.specs.Letters.{byte_of}
