@@ -6,6 +6,7 @@ use crate::limits::{MAX_REPLICAS, MIN_REPLICAS};
 use crate::refusal::Refusal;
 
 // For each number N of replicas from MIN_REPLICAS on: how many may be faulty, and how many equal echoes make a ready.
+// Pairs in a table, because the rule is given as such a table.
 const TABLE: [(u8, u8); 13] = [
     (1, 3),
     (1, 4),
@@ -30,5 +31,5 @@ pub fn quorum(n: u8) -> Result<(u8, u8), Refusal>
     if n < MIN_REPLICAS || n > MAX_REPLICAS {
         return Err(Refusal::Boxes);
     }
-    Ok(TABLE[(n - MIN_REPLICAS) as usize])
+    Ok(TABLE[usize::from(n - MIN_REPLICAS)])
 }

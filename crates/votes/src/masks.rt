@@ -10,7 +10,7 @@ impl Mask {
     pub(crate) fn count(self, n: u8) -> u32
         ensures { result ≡ count n (has self.0) }
     {
-        (self.0 as u32 & ((1u32 << n.min(16)) - 1)).count_ones()
+        (u32::from(self.0) & ((1u32 << n.min(16)) - 1)).count_ones()
     }
 
     // Whether a sender is in it.

@@ -1,4 +1,4 @@
-use Rattle.std.proofs.Common.{ℕ, ◌-◌, ◌<◌, ◌≤◌, List, [], ◌∷◌, sym, refl, subst, arith}
+use Rattle.std.proofs.Common.{ℕ, ◌-◌, ◌<◌, ◌≤◌, List, [], ◌∷◌, get_or, sym, refl, ap, ◌∙◌, subst, arith}
 use Rattle.common.specs.Quorums.{Sound}
 use Rattle.common.proofs.Tables.{row, sound}
 use Rattle.common.proofs.quorums.quorum.Goals as goal
@@ -14,4 +14,5 @@ returns-clause-sound c =
     let low : 4 ≤ n = omega (arith, c.if-n-lt-MIN_REPLICAS.false) in
     let high : n ≤ 16 = omega (arith, c.if-n-gt-MAX_REPLICAS.false) in
     let within : n - 4 < 13 = omega arith in
-    subst (Sound n) (sym (row table 4 n refl low within)) (sound n (omega arith))
+    let e = ap (λ k. get_or table k (0, 0)) c.from.ensures ∙ row table 4 n refl low within in
+    subst (Sound n) (sym e) (sound n (omega arith))
