@@ -16,7 +16,7 @@ impl ShareOrder {
         ensures { MatchOption result (is_gift from.number to amount ≡ false) (λ x. fields_of x ≡ (1, from.number, to, amount)) }
     {
         let to = House::new(to)?;
-        if from.number == to.number || amount < 1 {
+        if from == to || amount < 1 {
             return None;
         }
         Some(ShareOrder::Give(Gift { from, to, amount }))
