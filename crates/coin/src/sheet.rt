@@ -1,6 +1,6 @@
 use common::EPOCHS;
 
-// Two bytes for each epoch.
+// Two bytes for each epoch; cast, because a constant calls no function.
 pub const SHEET: usize = 2 * EPOCHS as usize;
 
 // Answers from dealt bytes.

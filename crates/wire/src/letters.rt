@@ -5,14 +5,14 @@ use crate::letter::Letter;
 use common::Refusal;
 use entry::Entry;
 
-// The letter that a byte is, if it is one.
+// The letter that a byte is, if it is one: matched as a character, as each letter of the wire is.
 impl TryFrom<u8> for Letter {
     type Error = Refusal;
 
     ghost try_from_gives = { λ byte r. r ≡ known (letter_of byte) };
 
     fn try_from(byte: u8) -> Result<Letter, Refusal> {
-        match byte as char {
+        match char::from(byte) {
             'S' => Ok(Letter::Send),
             'E' => Ok(Letter::Echo),
             'R' => Ok(Letter::Ready),
@@ -31,16 +31,7 @@ impl From<Letter> for u8 {
     ghost from_gives = { λ letter byte. byte ≡ byte_of letter };
 
     fn from(letter: Letter) -> u8 {
-        match letter {
-            Letter::Send => b'S',
-            Letter::Echo => b'E',
-            Letter::Ready => b'R',
-            Letter::Have => b'H',
-            Letter::Value => b'V',
-            Letter::Seen => b'A',
-            Letter::Confirm => b'C',
-            Letter::Finish => b'F',
-        }
+        letter as u8
     }
 }
 

@@ -49,10 +49,8 @@ fn put_item<K: Entry>(head: &[u8], item: &[u8], out: &mut [u8]) -> Result<usize,
 fn put_vote(letter: u8, epoch: u16, rest: &[u8], out: &mut [u8]) -> Result<usize, Refusal>
     ensures { (numbered result, out.new) ≡ placed (oversize epoch) (letter ∷ epoch ∷ rest.now) out.old }
 {
-    if epoch > 255 {
-        return Err(Refusal::Range);
-    }
-    put_both(&[letter, epoch as u8], rest, out)
+    let epoch = u8::try_from(epoch).map_err(|_| Refusal::Range)?;
+    put_both(&[letter, epoch], rest, out)
 }
 
 // Both parts, one behind the other, if they fit.
