@@ -12,7 +12,7 @@ pub fn holds<K: Entry>(cell: &Option<K>, x: &K) -> bool
     cell.is_some_and(|y| y == *x)
 }
 
-// How many senders hold the entry.
+// How many senders hold the entry, counted in one pass over the row.
 pub fn standing<K: Entry>(cells: &[Option<K>], x: &K) -> usize
     ensures { result ≡ standing (map (option_map K.bytes) cells.now) (K.bytes x.now) }
 {

@@ -32,7 +32,8 @@ impl ShareOrder {
         Some(ShareOrder::Close(house))
     }
 
-    // The number of its kind, from, to and amount, with zeros where it has none.
+    // The number of its kind, from, to and amount, with zeros where it has none. The 1 and the 2 are the
+    // format's first byte, written here and read in `read` alone.
     pub fn fields(&self) -> (u8, u16, u16, u32)
         ensures { result ≡ fields_of self.now }
     {

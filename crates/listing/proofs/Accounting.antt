@@ -6,7 +6,7 @@ use Rattle.common.specs.declared.refusal.Refusal.TheVariants as refusals
 use Rattle.wire.specs.Statements.{Message}
 use Rattle.wire.specs.Codec.{parse_of}
 use Rattle.wire.specs.Frames.{first_of, next_of, walk_of, joined, Statements}
-use Rattle.wire.proofs.Walking.{first_joined, next_first, walks}
+use Rattle.wire.proofs.Walking.{first_joined, joined_append, next_first, walks}
 use Rattle.listing.specs.Rows.{Kind}
 use Rattle.listing.specs.Lists.{part_row, Listed, onto, list_from, Rows, Accounts}
 
@@ -71,10 +71,6 @@ told k p (t ∷ ts) stop = by (part_row k p t) refl (told k (p + length t) ts st
           let m = more.torn r q f in
           (omega (arith, m.0, length-append t (joined more.sound)), before k q t ts more.sound stop r m.1);
     }
-
-joined_append : (ts us : List (List ℕ)) → joined (ts ++ us) ≡ joined ts ++ joined us
-joined_append [] us = refl
-joined_append (t ∷ ts) us = ap (λ r. t ++ r) (joined_append ts us) ∙ sym (append_assoc t (joined ts) (joined us))
 
 -- the statement behind some others is whole
 whole_at : (w : ℕ) (ts : List (List ℕ)) (t : List ℕ) (us : List (List ℕ)) → Statements w (ts ++ (t ∷ us)) → (m : Message) × (parse_of w t ≡ Ok m)

@@ -5,6 +5,7 @@ use Rattle.std.proofs.lemmas.List.{take_at, drop_at, drop_all, take_rest, nil_fr
 use Rattle.std.proofs.lemmas.Bool.{lt-ltb, le-ltb, ltb-true, ltb-false}
 use Rattle.wire.specs.Codec.{placed}
 use Rattle.wire.specs.Frames.{joined}
+use Rattle.wire.proofs.Walking.{joined_append}
 use Rattle.showing.specs.Showing.{fitting, written, lay_of}
 
 -- what was written to the front of the rest
@@ -12,10 +13,6 @@ pub rest_put : (out last : List ℕ) (at : ℕ) → put_mid at (length out - at)
 rest_put out last at =
     ap (λ l. take at out ++ (last ++ l)) (drop_all (length out - at) (drop at out) (omega (arith, length-drop at out)))
     ∙ ap (λ l. take at out ++ l) (append-nil last)
-
-pub joined_append : (xs ys : List (List ℕ)) → joined (xs ++ ys) ≡ joined xs ++ joined ys
-joined_append [] ys = refl
-joined_append (x ∷ xs) ys = ap (λ l. x ++ l) (joined_append xs ys) ∙ sym (append_assoc x (joined xs) (joined ys))
 
 -- what placing answers
 pub record Fits (bs out last : List ℕ) (n : ℕ) : Type 0 where

@@ -8,6 +8,7 @@ use Rattle.theory.specs.Statement.{Stmt}
 use Rattle.wire.specs.Codec.{parse_of}
 use Rattle.wire.specs.Frames.{joined, Statements}
 use Rattle.wire.proofs.Reading.{written_read}
+use Rattle.wire.proofs.Walking.{joined_append}
 use Rattle.replica.specs.declared.state.Replica.{Replica}
 use Rattle.replica.specs.Store.{Store, fits}
 use Rattle.showing.specs.Boards.{board_of}
@@ -17,7 +18,6 @@ use Rattle.showing.specs.Laws.{parts, Roomy, Step, Wrote, Shows}
 use Rattle.showing.proofs.Standing.{Wide}
 use Rattle.showing.proofs.Filling.{board_all, board_only, board_fits}
 use Rattle.showing.proofs.Ranking.{board_once}
-use Rattle.showing.proofs.Laying.{joined_append}
 use Rattle.showing.proofs.Stepping.{stepped, answers}
 
 -- the statements up to one number, and from there up to another

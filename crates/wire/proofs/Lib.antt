@@ -1,4 +1,3 @@
 pub mod Reading
 pub mod Walking
-pub mod Placing
 pub mod Stepping

@@ -126,6 +126,10 @@ cut_again (suc n) w (t ∷ ts) ok h =
 pub next_first : (w p : ℕ) (s : List ℕ) → p ≤ length s → next_of w s p ≡ first_of w (drop p s)
 next_first w p s h = let a : ltb (length s) p ≡ false = grind (arith, nat_tests) in rw a refl
 
+pub joined_append : (ts us : List (List ℕ)) → joined (ts ++ us) ≡ joined ts ++ joined us
+joined_append [] us = refl
+joined_append (t ∷ ts) us = ap (λ r. t ++ r) (joined_append ts us) ∙ sym (append_assoc t (joined ts) (joined us))
+
 -- next hands out joined statements one by one
 handed : (w p : ℕ) (s rest : List ℕ) (ts : List (List ℕ)) → Statements w ts → p ≤ length s → drop p s ≡ joined ts ++ rest → Handed w s p ts
 handed w p s rest [] ok inside e = tt

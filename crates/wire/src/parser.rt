@@ -23,49 +23,37 @@ pub fn parse<K: Entry>(s: &[u8]) -> Result<Statement<'_>, Refusal>
     Ok(operands::<K>(letter, s))
 }
 
+// Reads the bytes behind the letter either way: a queue, a slot and an entry, or an epoch and a round.
 fn operands<K: Entry>(letter: Letter, s: &[u8]) -> Statement<'_>
     requires { length_of K.WIDTH letter ≤ length s.now }
     ensures { message_of result ≡ read_of letter s.now }
 {
+    let (queue, slot, item) = (s[1], s[2], rest(s, 3));
+    let (epoch, round) = (u16::from(s[1]), s[2]);
     match letter {
         Letter::Send => Statement::Send {
             slot: s[1],
             item: rest(s, 2),
         },
-        Letter::Echo => Statement::Echo {
-            queue: s[1],
-            slot: s[2],
-            item: rest(s, 3),
-        },
-        Letter::Ready => Statement::Ready {
-            queue: s[1],
-            slot: s[2],
-            item: rest(s, 3),
-        },
-        Letter::Have => Statement::Have {
-            queue: s[1],
-            slot: s[2],
-            item: rest(s, 3),
-        },
+        Letter::Echo => Statement::Echo { queue, slot, item },
+        Letter::Ready => Statement::Ready { queue, slot, item },
+        Letter::Have => Statement::Have { queue, slot, item },
         Letter::Value => Statement::Value {
-            epoch: u16::from(s[1]),
-            round: s[2],
+            epoch,
+            round,
             bit: s[3],
         },
         Letter::Seen => Statement::Seen {
-            epoch: u16::from(s[1]),
-            round: s[2],
+            epoch,
+            round,
             bit: s[3],
         },
         Letter::Confirm => Statement::Confirm {
-            epoch: u16::from(s[1]),
-            round: s[2],
+            epoch,
+            round,
             set: s[3],
         },
-        Letter::Finish => Statement::Finish {
-            epoch: u16::from(s[1]),
-            bit: s[2],
-        },
+        Letter::Finish => Statement::Finish { epoch, bit: s[2] },
     }
 }
 

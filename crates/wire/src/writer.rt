@@ -14,12 +14,6 @@ impl Statement<'_> {
         ensures value { (numbered result, out.new) ≡ write_of K.WIDTH (message_of self.entry) out.old }
         ensures back { IfOk result (λ n. parse_of K.WIDTH (take n out.new) ≡ Ok (message_of self.entry)) }
     {
-        self.put::<K>(out)
-    }
-
-    fn put<K: Entry>(self, out: &mut [u8]) -> Result<usize, Refusal>
-        ensures { (numbered result, out.new) ≡ write_of K.WIDTH (message_of self.entry) out.old }
-    {
         let letter = u8::from(self.letter());
         match self {
             Statement::Send { slot, item } => put_item::<K>(&[letter, slot], item, out),
