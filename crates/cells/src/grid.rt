@@ -8,6 +8,7 @@ pub struct Grid {
     pub w: u8,
 }
 
+// Each method asks for no more than its own place needs: a queue and a sender below n, a slot below w.
 impl Grid {
     // How many slots there are in all queues.
     pub fn slots(self) -> usize

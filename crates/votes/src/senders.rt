@@ -54,7 +54,7 @@ impl Marks {
         Bits::of(self.zero.contains(sender), self.one.contains(sender))
     }
 
-    // A sender marks a bit as well.
+    // A sender marks a bit as well. It is below 16, since a mask holds no other.
     pub fn mark(self, bit: bool, sender: u8) -> Marks
         requires { sender < 16 }
         ensures value { result ≡ mark self bit sender }
@@ -63,7 +63,7 @@ impl Marks {
         self.mark_set(Some(Bits::Only(bit)), sender)
     }
 
-    // A sender marks the bits of a set as well, if there is one.
+    // A sender marks the bits of a set as well, if there is one. It is below 16, since a mask holds no other.
     pub fn mark_set(self, set: Option<Bits>, sender: u8) -> Marks
         requires { sender < 16 }
         ensures value { result ≡ with_set self (bit_in set false) (bit_in set true) sender }

@@ -1,4 +1,5 @@
 // What a replica states, as it was read: numbers in range or not, and the entry's bytes still in the frame.
+// The replica's `Claim` has the same cases with their values read; one enum for both would take three parameters.
 #[derive(Clone, Copy)]
 pub enum Statement<'a> {
     // The sender's own slot holds the entry.
