@@ -5,7 +5,7 @@ use crate::letter::Letter;
 use common::Refusal;
 use entry::Entry;
 
-// The letter that a byte is, if it is one: matched as a character, as each letter of the wire is.
+// The letter that a byte is, if it is one, matched as a character by a rule of the project.
 impl TryFrom<u8> for Letter {
     type Error = Refusal;
 
