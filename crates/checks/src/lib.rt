@@ -1,6 +1,6 @@
 // The worked examples that are proved, as one table, and the tests that are run: each range's edges and
 // what lies just past them, each refusal, frames cut at each byte.
-// Nothing here is used by another crate.
+// Nothing here is used by another crate but the memory for the tests of a replica, which `trials` lends too.
 #![tactic(auto)]
 
 ghost use Rattle.checks.specs.Examples.{All, examples};
@@ -11,6 +11,7 @@ mod coins;
 mod entries;
 #[cfg(test)]
 mod frames;
+pub mod memory;
 #[cfg(test)]
 mod quorums;
 #[cfg(test)]

@@ -1,5 +1,5 @@
 // What print writes, and what it declines.
-use crate::worlds::{Cells, Lengths, READINGS, begin, needed, put_at, read};
+use checks::memory::{Cells, Lengths, READING, begin, needed, put_at, read};
 use entry::Reading;
 use printing::print;
 use replica::Page;
@@ -16,7 +16,7 @@ const NONE: &[u8; 51] = b"book;4;0\nepoch;box;slot;house;week;quantity;amount\n"
 // Prints the file of a replica of 4 with one slot each, whose cells hold `held` pages, `count` of them counted; answers
 // its length, or the number of the refusal.
 fn printed(held: usize, count: u16, out: &mut [u8]) -> Result<Result<usize, u8>, Fail> {
-    let item = read::<Reading>(READINGS.x)?;
+    let item = read::<Reading>(&READING)?;
     let first = Page {
         epoch: 0,
         queue: 0,

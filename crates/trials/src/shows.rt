@@ -1,5 +1,6 @@
 // What show writes, from each number on and into each room.
-use crate::worlds::{Cells, READINGS, begin, needed, put_at, read};
+use crate::worlds::Tried;
+use checks::memory::{Cells, begin, needed, put_at, read};
 use entry::Reading;
 use replica::{Replica, Tables};
 use showing::{Shown, show};
@@ -99,8 +100,8 @@ fn boards(rt: HostRuntime) -> Result<(), Fail> {
     let mut cells = Cells::of(None, needed(4, 2));
     let mut replica = made(&rt, &mut cells)?;
     vote(&mut replica);
-    let x = read(READINGS.x)?;
-    let y = read(READINGS.y)?;
+    let x = read(Reading::X)?;
+    let y = read(Reading::Y)?;
     put_at(&mut cells.sends, 4, x)?;
     put_at(&mut cells.sends, 5, y)?;
     put_at(&mut cells.sends, 6, y)?;

@@ -1,182 +1,111 @@
 // A replica with its cells, called and then compared as a whole with what it should be.
-use entry::Entry;
+use arrayvec::ArrayVec;
+use checks::memory::{ALL, Cells, Lengths, READING, begin, begun, lacking, needed, put_at, read};
+use entry::{Entry, Reading, ShareOrder};
 use intake::{hear, submit};
-use replica::{Page, Replica, Set, Stage, Tables};
+use replica::{Replica, Set, Stage};
 use std::test::*;
 use votes::{Marks, Round, Votes};
 
 pub const LETTERS: [u8; 8] = [b'S', b'E', b'R', b'H', b'V', b'A', b'C', b'F'];
 
-// How many cells there are of sends, echoes, readies, haves and pages.
-pub type Lengths = [usize; 5];
-
-pub const ALL: Lengths = [257, 4097, 4097, 4097, 257];
+// Epochs, each with the stage that it is tried in.
+pub const STAGES: [(u16, Stage); 4] = [
+    (0, Stage::Unopened),
+    (
+        1,
+        Stage::Open {
+            round: 0,
+            closed: false,
+        },
+    ),
+    (
+        254,
+        Stage::Open {
+            round: 15,
+            closed: true,
+        },
+    ),
+    (255, Stage::Awaiting),
+];
 
 // What a call answers: the number of the refusal, where it declines.
 pub type Answer = Result<(), u8>;
 
-// The bytes of two entries of a kind, and bytes of its width that are none.
-#[derive(Clone, Copy)]
-pub struct Items<'a> {
-    pub x: &'a [u8],
-    pub y: &'a [u8],
-    pub none: &'a [u8],
+// A kind of entry that is tried: the bytes of two entries, and bytes of its width that are none.
+pub trait Tried: Entry {
+    const X: &'static [u8];
+
+    const Y: &'static [u8];
+
+    const NONE: &'static [u8];
 }
 
-pub const READINGS: Items<'static> = Items {
-    x: &[0, 12, 7, 1, 0, 0, 13, 72],
-    y: &[3, 231, 53, 3, 255, 255, 255, 255],
-    none: &[0, 12, 54, 1, 0, 0, 13, 72],
-};
+impl Tried for Reading {
+    const X: &'static [u8] = &READING;
 
-pub const ORDERS: Items<'static> = Items {
-    x: &[1, 0, 12, 0, 34, 0, 0, 0, 100],
-    y: &[2, 0, 12, 0, 0, 0, 0, 0, 0],
-    none: &[1, 0, 12, 0, 12, 0, 0, 0, 100],
-};
+    const Y: &'static [u8] = &[3, 231, 53, 3, 255, 255, 255, 255];
 
-// Memory for the largest set, with a cell to spare in each table, and how many cells of each are lent.
-#[derive(Drop)]
-pub struct Cells<K> {
-    pub lent: Lengths,
-    pub sends: [Option<K>; 257],
-    pub echoes: [Option<K>; 4097],
-    pub readies: [Option<K>; 4097],
-    pub haves: [Option<K>; 4097],
-    pub pages: [Option<Page<K>>; 257],
+    const NONE: &'static [u8] = &[0, 12, 54, 1, 0, 0, 13, 72];
 }
 
-// A replica with its cells, and what they should be.
+impl Tried for ShareOrder {
+    const X: &'static [u8] = &[1, 0, 12, 0, 34, 0, 0, 0, 100];
+
+    const Y: &'static [u8] = &[2, 0, 12, 0, 0, 0, 0, 0, 0];
+
+    const NONE: &'static [u8] = &[1, 0, 12, 0, 12, 0, 0, 0, 100];
+}
+
+// A replica with its cells, and what they should be; of how many it is made anew, and with how many slots.
 #[derive(Drop)]
 pub struct World<K> {
-    pub replica: Replica,
+    pub n: u8,
+    pub w: u8,
+    replica: Replica,
     pub want: Replica,
-    pub cells: Cells<K>,
-    pub wanted: Cells<K>,
-}
-
-pub fn read<K: Entry>(s: &[u8]) -> Result<K, Fail> {
-    Ok(K::read(s).ok_or("no entry")?)
-}
-
-// How many cells a set needs of each table.
-pub fn needed(n: u8, w: u8) -> Lengths {
-    let slots = usize::from(n) * usize::from(w);
-    let rows = slots * usize::from(n);
-    [slots, rows, rows, rows, slots]
-}
-
-// One cell less in one table, for each of the tables.
-pub fn lacking(enough: Lengths) -> [Lengths; 5] {
-    let [s, e, r, h, p] = enough;
-    [
-        [s.saturating_sub(1), e, r, h, p],
-        [s, e.saturating_sub(1), r, h, p],
-        [s, e, r.saturating_sub(1), h, p],
-        [s, e, r, h.saturating_sub(1), p],
-        [s, e, r, h, p.saturating_sub(1)],
-    ]
-}
-
-impl<K: Entry> Cells<K> {
-    // Every cell filled with an entry, or every cell empty.
-    pub fn of(item: Option<K>, lent: Lengths) -> Cells<K> {
-        Cells {
-            lent,
-            sends: [item; 257],
-            echoes: [item; 4097],
-            readies: [item; 4097],
-            haves: [item; 4097],
-            pages: [item.map(|item| page(1, item)); 257],
-        }
-    }
-
-    pub fn tables(&mut self) -> Tables<'_, K> {
-        let [s, e, r, h, p] = self.lent;
-        let sends = &mut self.sends;
-        let echoes = &mut self.echoes;
-        let readies = &mut self.readies;
-        let haves = &mut self.haves;
-        let pages = &mut self.pages;
-        Tables::lend(
-            front(&mut sends[..], s),
-            front(&mut echoes[..], e),
-            front(&mut readies[..], r),
-            front(&mut haves[..], h),
-            front(&mut pages[..], p),
-        )
-    }
-
-    // Writes a page at a place.
-    pub fn write(&mut self, place: usize, epoch: u16, item: K) -> Result<(), Fail> {
-        put_at(&mut self.pages, place, page(epoch, item))
-    }
-
-    // Fills the cell of a sender's statement with an entry.
-    fn hold(&mut self, set: Set, sender: u8, head: [u8; 4], item: &[u8]) -> Result<(), Fail> {
-        let [letter, a, b, _] = head;
-        let w = usize::from(set.w);
-        let own = usize::from(sender) * w + usize::from(a);
-        let slot = usize::from(a) * w + usize::from(b);
-        let row = slot
-            .wrapping_mul(usize::from(set.n))
-            .wrapping_add(usize::from(sender));
-        match letter as char {
-            'S' => put_at(&mut self.sends, own, read(item)?),
-            'E' => put_at(&mut self.echoes, row, read(item)?),
-            'R' => put_at(&mut self.readies, row, read(item)?),
-            'H' => put_at(&mut self.haves, row, read(item)?),
-            _ => Err(Fail::new("no entry")),
-        }
-    }
-
-    pub fn alike(&self, other: &Cells<K>) -> bool {
-        self.sends == other.sends
-            && self.echoes == other.echoes
-            && self.readies == other.readies
-            && self.haves == other.haves
-            && self.pages == other.pages
-    }
-}
-
-fn page<K>(epoch: u16, item: K) -> Page<K> {
-    Page {
-        epoch,
-        queue: 1,
-        slot: 0,
-        item,
-    }
-}
-
-// The first cells, so many if there are.
-pub fn front<T>(cells: &mut [T], count: usize) -> &mut [T] {
-    let end = count.min(cells.len());
-    &mut cells[..end]
-}
-
-// Fills the cell at a place.
-pub fn put_at<T: Copy>(cells: &mut [Option<T>], at: usize, x: T) -> Result<(), Fail> {
-    *cells.get_mut(at).ok_or("out of range")? = Some(x);
-    Ok(())
-}
-
-// A replica made in these cells.
-pub fn begin<K: Entry>(n: u8, me: u8, w: u8, cells: &mut Cells<K>) -> Result<Replica, Fail> {
-    Ok(Replica::make(n, me, w, &mut cells.tables())?)
+    cells: Cells<K>,
+    wanted: Cells<K>,
 }
 
 // A replica of four in cells that all hold an entry.
-pub fn made<K: Entry>(old: &[u8]) -> Result<World<K>, Fail> {
-    let item = Some(read(old)?);
+pub fn made<K: Tried>() -> Result<World<K>, Fail> {
+    let item = Some(read(K::Y)?);
     let mut cells = Cells::of(item, ALL);
     let wanted = Cells::of(item, ALL);
     let replica = begin(4, 0, 1, &mut cells)?;
     Ok(World {
+        n: 4,
+        w: 1,
         replica,
         want: replica,
         cells,
         wanted,
     })
+}
+
+// Fills the cell of a sender's statement with an entry.
+fn hold<K: Entry>(
+    cells: &mut Cells<K>,
+    set: Set,
+    sender: u8,
+    head: [u8; 4],
+    item: &[u8],
+) -> Result<(), Fail> {
+    let [letter, a, b, _] = head;
+    let w = usize::from(set.w);
+    let own = usize::from(sender) * w + usize::from(a);
+    let slot = usize::from(a) * w + usize::from(b);
+    let row = slot
+        .wrapping_mul(usize::from(set.n))
+        .wrapping_add(usize::from(sender));
+    match letter as char {
+        'S' => put_at(&mut cells.sends, own, read(item)?),
+        'E' => put_at(&mut cells.echoes, row, read(item)?),
+        'R' => put_at(&mut cells.readies, row, read(item)?),
+        'H' => put_at(&mut cells.haves, row, read(item)?),
+        _ => Err(Fail::new("no entry")),
+    }
 }
 
 // What hear answers to bytes from a sender, or submit to bytes from none.
@@ -194,38 +123,85 @@ fn answer<K: Entry>(
     answer.map_err(u8::from)
 }
 
-impl<K: Entry> World<K> {
-    // Makes the replica anew, in cells that all held an old entry.
-    pub fn renew(&mut self, n: u8, me: u8, w: u8, lent: Lengths, old: &[u8]) -> Result<(), Fail> {
-        let item = Some(read(old)?);
-        self.cells = Cells::of(item, lent);
-        self.wanted = Cells::of(item, lent);
-        self.replica = begin(n, me, w, &mut self.cells)?;
-        self.want = begin(n, me, w, &mut self.wanted)?;
+// The replica in an epoch and a stage, with so many pages.
+fn placed(replica: Replica, epoch: u16, stage: Stage, pages: u16) -> Replica {
+    Replica {
+        epoch,
+        stage,
+        pages,
+        ..replica
+    }
+}
+
+impl<K: Tried> World<K> {
+    // Tries each set.
+    pub fn sets<F: Fn(&mut Self) -> Result<(), Fail>>(&mut self, tried: F) -> Result<(), Fail>
+        requires { F.IsAlwaysCallable tried }
+    {
+        for n in [4, 5, 6, 7, 16] {
+            for w in [1, 2, 16] {
+                self.n = n;
+                self.w = w;
+                tried(self)?;
+            }
+        }
         Ok(())
+    }
+
+    // Makes the replica anew, in cells that all held an old entry.
+    pub fn renew(&mut self, me: u8, lent: Lengths) -> Result<(), Fail> {
+        let item = Some(read(K::Y)?);
+        self.cells = Cells::of(item, lent);
+        self.replica = begin(self.n, me, self.w, &mut self.cells)?;
+        self.wanted = Cells::of(item, lent);
+        self.wanted.clear(needed(self.n, self.w));
+        self.want = begun(self.replica.set);
+        Ok(())
+    }
+
+    // The same for the one in the middle, in cells of just the needed number.
+    pub fn anew(&mut self) -> Result<(), Fail> {
+        self.renew(self.n / 2, needed(self.n, self.w))
+    }
+
+    // What is said with one cell short in any table, which comes before all else, and what with all of them lent, be
+    // they just enough or more.
+    pub fn short<F, G>(&mut self, lacked: F, enough: G) -> Result<(), Fail>
+    where
+        F: Fn(&mut Self) -> Result<(), Fail>,
+        G: Fn(&mut Self) -> Result<(), Fail>,
+        requires lacked { F.IsAlwaysCallable lacked }
+        requires enough { G.IsAlwaysCallable enough }
+    {
+        let need = needed(self.n, self.w);
+        for all in [need, ALL] {
+            self.renew(self.n / 2, all)?;
+            for lent in lacking(need) {
+                self.lend(lent);
+                lacked(self)?;
+            }
+            self.lend(all);
+            enough(self)?;
+        }
+        Ok(())
+    }
+
+    fn lend(&mut self, lent: Lengths) {
+        self.cells.lent = lent;
+        self.wanted.lent = lent;
     }
 
     // Puts the replica into an epoch and a stage, with so many pages.
     pub fn set(&mut self, epoch: u16, stage: Stage, pages: u16) {
-        self.replica = Replica {
-            epoch,
-            stage,
-            pages,
-            ..self.replica
-        };
-        self.want = Replica {
-            epoch,
-            stage,
-            pages,
-            ..self.want
-        };
+        self.replica = placed(self.replica, epoch, stage, pages);
+        self.want = placed(self.want, epoch, stage, pages);
     }
 
     // What a call answers, after which all is as wanted.
     fn calls(&mut self, sender: Option<u8>, s: &[u8], wanted: Answer) -> Result<(), Fail> {
         let got = answer(&mut self.replica, &mut self.cells, sender, s);
-        let (n, w) = (self.replica.set.n, self.replica.set.w);
-        let same = self.replica == self.want && self.cells.alike(&self.wanted);
+        let (n, w) = (self.n, self.w);
+        let same = self.replica == self.want && self.cells == self.wanted;
         if got != wanted || !same {
             return Err(Fail::new(format_args!(
                 "{n}, {w}: {s:?} from {sender:?}: {got:?} and not {wanted:?}, or not as wanted"
@@ -247,12 +223,10 @@ impl<K: Entry> World<K> {
         item: &[u8],
         wanted: Answer,
     ) -> Result<(), Fail> {
-        let (bytes, len) = line(head, item)?;
         if wanted.is_ok() {
             self.put(sender, head, item)?;
         }
-        let s = bytes.get(..len).ok_or("out of range")?;
-        self.calls(Some(sender), s, wanted)
+        self.calls(Some(sender), line(head, item)?.as_slice(), wanted)
     }
 
     // Submits bytes that are declined.
@@ -270,8 +244,8 @@ impl<K: Entry> World<K> {
     // Holds an own statement with an entry, as if it was stated before.
     pub fn holds(&mut self, head: [u8; 4], item: &[u8]) -> Result<(), Fail> {
         let set = self.want.set;
-        self.cells.hold(set, set.me, head, item)?;
-        self.wanted.hold(set, set.me, head, item)
+        hold(&mut self.cells, set, set.me, head, item)?;
+        hold(&mut self.wanted, set, set.me, head, item)
     }
 
     // Writes an entry on a page, and has so many pages.
@@ -289,16 +263,11 @@ impl<K: Entry> World<K> {
         let set = self.want.set;
         let votes = &mut self.want.votes;
         match letter as char {
-            'V' => mark(&mut round_of(votes, b)?.values, sender, c == 0, c == 1),
-            'A' => mark(&mut round_of(votes, b)?.seens, sender, c == 0, c == 1),
-            'C' => mark(
-                &mut round_of(votes, b)?.confirms,
-                sender,
-                c % 2 == 1,
-                c >= 2,
-            ),
-            'F' => mark(&mut votes.finish, sender, b == 0, b == 1),
-            _ => self.wanted.hold(set, sender, head, item),
+            'V' => mark(&mut round_of(votes, b)?.values, sender, of_bit(c)),
+            'A' => mark(&mut round_of(votes, b)?.seens, sender, of_bit(c)),
+            'C' => mark(&mut round_of(votes, b)?.confirms, sender, c),
+            'F' => mark(&mut votes.finish, sender, of_bit(b)),
+            _ => hold(&mut self.wanted, set, sender, head, item),
         }
     }
 }
@@ -308,36 +277,41 @@ fn round_of(votes: &mut Votes, round: u8) -> Result<&mut Round, Fail> {
     Ok(rounds.get_mut(usize::from(round)).ok_or("out of range")?)
 }
 
-fn mark(marks: &mut Marks, sender: u8, zero: bool, one: bool) -> Result<(), Fail> {
+// The number of the set of one bit, as a confirm has it.
+fn of_bit(bit: u8) -> u8 {
+    bit.wrapping_add(1)
+}
+
+// Marks the bits of a set: 1 is bit 0, 2 is bit 1, and 3 is both.
+fn mark(marks: &mut Marks, sender: u8, set: u8) -> Result<(), Fail> {
     if sender >= 16 {
         return Err(Fail::new("out of range"));
     }
     let bit = 1u16 << sender;
-    if zero {
+    if set & 1 != 0 {
         marks.zero.0 |= bit;
     }
-    if one {
+    if set & 2 != 0 {
         marks.one.0 |= bit;
     }
     Ok(())
 }
 
-// The bytes of a statement, and how many they are: as much of a head as its letter has, and its entry, if it has one.
-pub fn line(head: [u8; 4], item: &[u8]) -> Result<([u8; 16], usize), Fail> {
-    let (count, item) = match head[0] as char {
-        'S' => (2, item),
-        'E' | 'R' | 'H' => (3, item),
-        'F' => (3, &item[..0]),
-        _ => (4, &item[..0]),
-    };
-    let mut bytes = [0; 16];
-    let len = item.len().saturating_add(count);
-    if len > bytes.len() {
-        return Err(Fail::new("out of range"));
+// The bytes of a statement: as much of a head as its letter has, and its entry, if it has one.
+pub fn line(head: [u8; 4], item: &[u8]) -> Result<ArrayVec<u8, 16>, Fail> {
+    let mut line = ArrayVec::new();
+    let [letter, a, b, c] = head;
+    match letter as char {
+        'S' => {
+            line.try_extend_from_slice(&[letter, a])?;
+            line.try_extend_from_slice(item)?;
+        }
+        'E' | 'R' | 'H' => {
+            line.try_extend_from_slice(&[letter, a, b])?;
+            line.try_extend_from_slice(item)?;
+        }
+        'F' => line.try_extend_from_slice(&[letter, a, b])?,
+        _ => line.try_extend_from_slice(&[letter, a, b, c])?,
     }
-    let said = head.iter().take(count).chain(item.iter());
-    for (b, x) in bytes.iter_mut().zip(said) {
-        *b = *x;
-    }
-    Ok((bytes, len))
+    Ok(line)
 }
