@@ -25,25 +25,20 @@ impl<K: Entry> Fitted<'_, '_, K> {
         ensures { numbered result ≡ vacant_of self.now.replica.now (store K.bytes self.now.tables.now) sender (claim_of K.bytes claim) }
     {
         let grid = self.replica.set.grid();
+        let tables = self.tables;
         let Votes { rounds, finish } = &self.replica.votes;
         match claim {
             Claim::Send { slot, item } => {
-                settle(self.tables.sends.get(grid.slot_place(sender, slot)), item)
+                settle(tables.sends.get(grid.slot_place(sender, slot)), item)
             }
             Claim::Echo { queue, slot, item } => {
-                settle(
-                    self.tables.echoes.get(grid.place(queue, slot, sender)),
-                    item,
-                )
+                settle(tables.echoes.get(grid.place(queue, slot, sender)), item)
             }
             Claim::Ready { queue, slot, item } => {
-                settle(
-                    self.tables.readies.get(grid.place(queue, slot, sender)),
-                    item,
-                )
+                settle(tables.readies.get(grid.place(queue, slot, sender)), item)
             }
             Claim::Have { queue, slot, item } => {
-                settle(self.tables.haves.get(grid.place(queue, slot, sender)), item)
+                settle(tables.haves.get(grid.place(queue, slot, sender)), item)
             }
             Claim::Value { round, bit, .. } => {
                 if rounds[usize::from(round)].values.has(bit, sender) {
@@ -64,23 +59,14 @@ impl<K: Entry> Fitted<'_, '_, K> {
 
 impl Replica {
     // Holds a sender's statement in its cell. Replica and tables are apart, since a struct of the two `&mut` loses
-    // the link to what they are at the end; and the law stands here and not at `fill`, since it is proved once from
-    // the equation, and there it would take an answer at each of the eight arms.
+    // the link to what they are at the end.
+    #[tactic(auto, using(crate::proofs::Putting::heard_by))]
     pub fn hold<K: Entry>(&mut self, tables: &mut Tables<'_, K>, sender: u8, claim: Claim<K>)
         requires lent { fits self.old.set.n self.old.set.w (store K.bytes tables.old) ≡ true }
         requires from { sender < self.old.set.n }
         requires ranged { ranged (plan self.old) (box self.old (store K.bytes tables.old)) (claim_of K.bytes claim) ≡ true }
         ensures value { (self.new, store K.bytes tables.new) ≡ held_of self.old (store K.bytes tables.old) sender (claim_of K.bytes claim) }
         ensures heard { Heard self.old (store K.bytes tables.old) sender (claim_of K.bytes claim) self.new (store K.bytes tables.new) }
-    {
-        self.fill(tables, sender, claim);
-    }
-
-    fn fill<K: Entry>(&mut self, tables: &mut Tables<'_, K>, sender: u8, claim: Claim<K>)
-        requires lent { fits self.old.set.n self.old.set.w (store K.bytes tables.old) ≡ true }
-        requires from { sender < self.old.set.n }
-        requires ranged { ranged (plan self.old) (box self.old (store K.bytes tables.old)) (claim_of K.bytes claim) ≡ true }
-        ensures { (self.new, store K.bytes tables.new) ≡ held_of self.old (store K.bytes tables.old) sender (claim_of K.bytes claim) }
     {
         let grid = self.set.grid();
         match claim {
