@@ -1,5 +1,5 @@
 -- What hear answers and leaves, in the theory's words.
-use Rattle.std.proofs.Common.{◌≡◌, ℕ, Bool, List, Ok, Err, Result, sym, refl, ◌∙◌, arith}
+use Rattle.std.proofs.Common.{◌≡◌, ℕ, Bool, List, Ok, Err, Result, sym, refl, ◌∙◌, subst, arith}
 use Rattle.std.proofs.lemmas.Bool.{ltb-true}
 use Rattle.theory.specs.Statement.{Stmt}
 use Rattle.replica.specs.declared.state.Replica.{Replica}
@@ -28,3 +28,7 @@ module _ (w : ℕ) (valid : List ℕ → Bool) (m : Replica) (t : Store) (j : �
 
   pub hears_law : let p = hear_of w valid m t j s in Hears w valid m t j s p.0 p.1 p.2
   hears_law = by_judgement (judge_of w valid m t j s) refl
+
+  -- what answers and leaves that has the law
+  pub hears_by : (answer : Result (Unit {0}) ℕ) (after : Replica) (left : Store) → ◌≡◌ {A = Result (Unit {0}) ℕ × Replica × Store} (answer, after, left) (hear_of w valid m t j s) → Hears w valid m t j s answer after left
+  hears_by answer after left e = subst (λ (p : Result (Unit {0}) ℕ × Replica × Store). Hears w valid m t j s p.0 p.1 p.2) (sym e) hears_law

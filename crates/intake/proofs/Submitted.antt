@@ -83,3 +83,7 @@ module _ (w : ℕ) (valid : List ℕ → Bool) (m : Replica) (t : Store) (s : Li
 
     pub submits_law : let p = submit_of w valid m t s in Submits valid m t s p.0 p.1 p.2
     submits_law = by_offer (offer_of w valid m t s) refl
+
+    -- what answers and leaves that has the law
+    pub submits_by : (answer : Result (Unit {0}) ℕ) (after : Replica) (left : Store) → ◌≡◌ {A = Result (Unit {0}) ℕ × Replica × Store} (answer, after, left) (submit_of w valid m t s) → Submits valid m t s answer after left
+    submits_by answer after left e = subst (λ (p : Result (Unit {0}) ℕ × Replica × Store). Submits valid m t s p.0 p.1 p.2) (sym e) submits_law

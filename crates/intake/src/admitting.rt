@@ -4,7 +4,7 @@ ghost use Rattle.wire.specs.Statements.{message_of};
 ghost use Rattle.replica.specs.Claims.{claim_of};
 ghost use Rattle.intake.specs.Hearing.{admit_of};
 
-use crate::operands::{bit_in, item_in, vote};
+use crate::operands::{bit_read, item_in, vote};
 use common::Refusal;
 use entry::Entry;
 use replica::{Bits, Claim, Replica};
@@ -36,11 +36,11 @@ pub fn admit<K: Entry>(
             Ok(Claim::Have { queue, slot, item })
         }
         Statement::Value { epoch, round, bit } => {
-            let bit = vote(replica, epoch, round, bit_in(bit))?;
+            let bit = vote(replica, epoch, round, bit_read(bit))?;
             Ok(Claim::Value { epoch, round, bit })
         }
         Statement::Seen { epoch, round, bit } => {
-            let bit = vote(replica, epoch, round, bit_in(bit))?;
+            let bit = vote(replica, epoch, round, bit_read(bit))?;
             Ok(Claim::Seen { epoch, round, bit })
         }
         Statement::Confirm { epoch, round, set } => {
@@ -48,7 +48,7 @@ pub fn admit<K: Entry>(
             Ok(Claim::Confirm { epoch, round, set })
         }
         Statement::Finish { epoch, bit } => {
-            let bit = vote(replica, epoch, 0, bit_in(bit))?;
+            let bit = vote(replica, epoch, 0, bit_read(bit))?;
             Ok(Claim::Finish { epoch, bit })
         }
     }

@@ -20,17 +20,18 @@ fn judge<K: Entry>(
 ) -> Result<Claim<K>, Refusal>
     ensures { answered (claim_of K.bytes) result ≡ judge_of K.WIDTH K.valid replica.now (store K.bytes tables.now) sender s.now }
 {
-    replica.fitted(tables)?;
+    let lent = replica.fitted(tables)?;
     if sender >= replica.set.n || sender == replica.set.me {
         return Err(Refusal::Sender);
     }
     let statement = parse::<K>(s)?;
     let claim = admit(replica, sender, statement)?;
-    replica.vacant(tables, sender, claim)?;
+    lent.vacant(sender, claim)?;
     Ok(claim)
 }
 
 // Hears the bytes of one statement from a sender, and holds it if it is accepted.
+#[tactic(auto, using(crate::proofs::Heard::hears_by))]
 pub fn hear<K: Entry>(
     replica: &mut Replica,
     tables: &mut Tables<'_, K>,
@@ -39,17 +40,6 @@ pub fn hear<K: Entry>(
 ) -> Result<(), Refusal>
     ensures value { (numbered result, replica.new, store K.bytes tables.new) ≡ hear_of K.WIDTH K.valid replica.old (store K.bytes tables.old) sender s.now }
     ensures hears { Hears K.WIDTH K.valid replica.old (store K.bytes tables.old) sender s.now (numbered result) replica.new (store K.bytes tables.new) }
-{
-    take_in(replica, tables, sender, s)
-}
-
-fn take_in<K: Entry>(
-    replica: &mut Replica,
-    tables: &mut Tables<'_, K>,
-    sender: u8,
-    s: &[u8],
-) -> Result<(), Refusal>
-    ensures { (numbered result, replica.new, store K.bytes tables.new) ≡ hear_of K.WIDTH K.valid replica.old (store K.bytes tables.old) sender s.now }
 {
     let claim = judge(replica, tables, sender, s)?;
     replica.hold(tables, sender, claim);

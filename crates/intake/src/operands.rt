@@ -9,7 +9,7 @@ use replica::Replica;
 use std::cmp::Ordering;
 
 // The bit that an operand is.
-pub fn bit_in(b: u8) -> Option<bool>
+pub fn bit_read(b: u8) -> Option<bool>
     ensures { result ≡ bit_numbered b }
 {
     match b {

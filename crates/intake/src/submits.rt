@@ -9,34 +9,34 @@ ghost use Rattle.intake.specs.Submitting.{unused_of, offer_of, submit_of, Submit
 
 use common::Refusal;
 use entry::Entry;
-use replica::{Claim, Replica, Tables};
+use replica::{Claim, Fitted, Replica, Tables};
 use wire::measure;
 
 // Whether a slot of the own queue has no own send.
-fn is_unused<K: Entry>(replica: &Replica, tables: &Tables<'_, K>, slot: u8) -> bool
-    requires { slot < replica.now.set.w }
-    ensures { result ≡ absent (view replica.now (store K.bytes tables.now) replica.now.set.me (at_send slot)) }
+fn is_unused<K: Entry>(lent: &Fitted<'_, '_, K>, slot: u8) -> bool
+    requires { slot < lent.now.replica.now.set.w }
+    ensures { result ≡ absent (view lent.now.replica.now (store K.bytes lent.now.tables.now) lent.now.replica.now.set.me (at_send slot)) }
 {
-    let set = replica.set;
+    let set = lent.replica.set;
     let at = set.grid().slot_place(set.me, slot);
-    tables.sends.get(at).is_none()
+    lent.tables.sends.get(at).is_none()
 }
 
 // The lowest slot of the own queue without an own send.
-fn unused<K: Entry>(replica: &Replica, tables: &Tables<'_, K>) -> Option<u8>
-    ensures { result ≡ unused_of replica.now (store K.bytes tables.now) }
+fn unused<K: Entry>(lent: &Fitted<'_, '_, K>) -> Option<u8>
+    ensures { result ≡ unused_of lent.now.replica.now (store K.bytes lent.now.tables.now) }
 {
-    (0..replica.set.w).find(|slot| is_unused(replica, tables, *slot))
+    (0..lent.replica.set.w).find(|slot| is_unused(lent, *slot))
 }
 
 // The send that the bytes of an entry become.
 fn offer<K: Entry>(replica: &Replica, tables: &Tables<'_, K>, s: &[u8]) -> Result<Claim<K>, Refusal>
     ensures { answered (claim_of K.bytes) result ≡ offer_of K.WIDTH K.valid replica.now (store K.bytes tables.now) s.now }
 {
-    replica.fitted(tables)?;
+    let lent = replica.fitted(tables)?;
     measure(s, K::WIDTH)?;
     let item = K::read(s).ok_or(Refusal::Entry)?;
-    let slot = unused(replica, tables).ok_or(Refusal::Full)?;
+    let slot = unused(&lent).ok_or(Refusal::Full)?;
     if replica.booked(tables, &item) {
         return Err(Refusal::Booked);
     }
@@ -51,16 +51,6 @@ pub fn submit<K: Entry>(
 ) -> Result<(), Refusal>
     ensures value { (numbered result, replica.new, store K.bytes tables.new) ≡ submit_of K.WIDTH K.valid replica.old (store K.bytes tables.old) s.now }
     ensures submits { Submits K.valid replica.old (store K.bytes tables.old) s.now (numbered result) replica.new (store K.bytes tables.new) }
-{
-    enter(replica, tables, s)
-}
-
-fn enter<K: Entry>(
-    replica: &mut Replica,
-    tables: &mut Tables<'_, K>,
-    s: &[u8],
-) -> Result<(), Refusal>
-    ensures { (numbered result, replica.new, store K.bytes tables.new) ≡ submit_of K.WIDTH K.valid replica.old (store K.bytes tables.old) s.now }
 {
     let claim = offer(replica, tables, s)?;
     replica.hold(tables, replica.set.me, claim);

@@ -10,6 +10,7 @@ use Rattle.theory.specs.Machine.{made}
 use Rattle.votes.specs.declared.ballot.Round.{Round}
 use Rattle.votes.specs.Votes.{no_round, bit_of, set_for as markedSet}
 use Rattle.votes.proofs.Marking.{marks_none, bit_none, set_none}
+use Rattle.cells.specs.declared.grid.Grid.{Grid}
 use Rattle.cells.specs.Rows.{Cells, slot_of, place_of}
 use Rattle.cells.proofs.Cellrows.{place_within}
 use Rattle.replica.specs.declared.state.Replica.{Replica}
@@ -81,6 +82,10 @@ accepted_numbers n me w s h = at (ltb n least_replicas || ltb most_replicas n) (
     at false true c e = absurd (let z : ◌≡◌ {A = ℕ} 0 1 = cc in omega arith)
     at false false true e = absurd (let z : ◌≡◌ {A = ℕ} 0 1 = cc in omega arith)
     at false false false e = cc
+
+-- and the grid that such a set goes by
+pub accepted_grid : (n me w : ℕ) (s : Numbers) → Ok s ≡ set_for n me w → (g : Grid) → g ≡ record { n = s.n; w = s.w } → g ≡ record { n = n; w = w }
+accepted_grid n me w s h g e = e ∙ ap (λ (x : Numbers). record { n = x.n; w = x.w }) (accepted_numbers n me w s h)
 
 pub fresh_begins : (m : Replica) (n me w : ℕ) (s : Numbers) (before t : Store) → plain m ≡ fresh s → Ok s ≡ set_for n me w → Wiped n w before t → Begins me m t
 fresh_begins m n me w s before t is h wiped =

@@ -1,5 +1,5 @@
 -- To hold a statement in its cell is, in the theory's words, to hear it.
-use Rattle.std.proofs.Common.{◌≡◌, ℕ, ◌*◌, ◌<◌, ◌≤◌, Bool, true, false, cond, not, ◌&&◌, eqb, ltb, ◌⊎◌, List, length, get_or, Some, None, Option, sym, refl, ap, ◌∙◌, inl, inr, arith, rules}
+use Rattle.std.proofs.Common.{◌≡◌, ℕ, ◌*◌, ◌<◌, ◌≤◌, Bool, true, false, cond, not, ◌&&◌, eqb, ltb, ◌⊎◌, List, length, get_or, Some, None, Option, sym, refl, ap, ◌∙◌, subst, inl, inr, arith, rules}
 use Rattle.std.specs.Option.{option_map}
 use Rattle.std.proofs.lemmas.List.{length-set}
 use Rattle.std.proofs.lemmas.Nat.{mul-add-lt}
@@ -19,7 +19,7 @@ use Rattle.cells.specs.Rows.{Cells, slot_of, place_of}
 use Rattle.replica.specs.declared.state.Replica.{Replica}
 use Rattle.replica.specs.Store.{Store, fits}
 use Rattle.replica.specs.View.{held, row_cell, value_in, vote_cell, view, plan, box}
-use Rattle.replica.specs.Holding.{Sized, values_marked, seens_marked, confirms_marked, entered, held_of}
+use Rattle.replica.specs.Holding.{Heard, Sized, values_marked, seens_marked, confirms_marked, entered, held_of}
 use Rattle.replica.proofs.Placing.{send_own, send_other, row_own, row_other, vote_own, vote_other}
 
 -- the tables are long enough
@@ -218,3 +218,9 @@ sized_held m t j (value e k v) z = record { long = length-set m.votes.rounds k (
 sized_held m t j (seen e k v) z = record { long = length-set m.votes.rounds k (seens_marked (λ p. mark p v j) (get_or m.votes.rounds k no_round)) ∙ z.long }
 sized_held m t j (confirm e k u) z = record { long = length-set m.votes.rounds k (confirms_marked (λ p. with_set p (in_set u false) (in_set u true) j) (get_or m.votes.rounds k no_round)) ∙ z.long }
 sized_held m t j (finish e v) z = record { long = z.long }
+
+-- what holds the statement so has heard it
+pub heard_by :
+    (m : Replica) (t : Store) (j : ℕ) (st : Stmt (List ℕ)) (after : Replica) (left : Store)
+    → fits m.set.n m.set.w t ≡ true → j < m.set.n → ranged (plan m) (box m t) st ≡ true → ◌≡◌ {A = Replica × Store} (after, left) (held_of m t j st) → Heard m t j st after left
+heard_by m t j st after left lent lj r e = subst (λ (p : Replica × Store). Heard m t j st p.0 p.1) (sym e) (record { hears = λ z free. (box_held m t j z lent lj st r free, sized_held m t j st z) })

@@ -85,5 +85,5 @@ held_of m t j (confirm e k u) = (with_votes m (round_marked m.votes k (confirms_
 held_of m t j (finish e v) = (with_votes m (with_finish m.votes (mark m.votes.finish v j)), t)
 
 -- In the theory's words: where the cell was free, the box has heard the statement.
-abbrev pub Heard : Replica → Store → ℕ → Stmt (List ℕ) → Replica → Store → Type 0
-Heard m t j st after left = Sized m → view m t j (cell st) ≡ None → (box after left ≡ small (hears j st) (box m t)) × Sized after
+pub record Heard (m : Replica) (t : Store) (j : ℕ) (st : Stmt (List ℕ)) (after : Replica) (left : Store) : Type 0 where
+  pub hears : Sized m → view m t j (cell st) ≡ None → (box after left ≡ small (hears j st) (box m t)) × Sized after

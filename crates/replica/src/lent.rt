@@ -1,6 +1,6 @@
 use cells::Witness;
 
-// A page of the book.
+// A page of the book. Queue and slot stand apart, as in the format.
 #[derive(Clone, Copy, PartialEq, Eq)]
 pub struct Page<K> {
     pub epoch: u16,

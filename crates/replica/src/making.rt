@@ -6,7 +6,6 @@ ghost use Rattle.replica.specs.Making.{plain, make_of, Begins};
 use crate::lent::Tables;
 use crate::set::Set;
 use crate::state::Replica;
-use cells::Grid;
 use common::Refusal;
 use entry::Entry;
 
@@ -23,7 +22,7 @@ impl Replica {
         ensures begins { IfOk result (λ m. Begins me m (store K.bytes tables.new)) }
     {
         let set = Set::new(n, me, w)?;
-        let grid = Grid { n, w };
+        let grid = set.grid();
         if !tables.fit(grid) {
             return Err(Refusal::Table);
         }

@@ -14,24 +14,19 @@ use entry::Entry;
 
 impl Replica {
     // The page at a place in the book, counted from 0.
+    #[tactic(auto, using(crate::proofs::Leading::reads))]
     pub fn page<K: Entry>(&self, tables: &Tables<'_, K>, place: usize) -> Result<Page<K>, Refusal>
         ensures value { answered (paged K.bytes) result ≡ page_of self.now (store K.bytes tables.now) place }
         ensures reads { Reads self.now (store K.bytes tables.now) }
     {
-        self.leaf(tables, place)
-    }
-
-    fn leaf<K: Entry>(&self, tables: &Tables<'_, K>, place: usize) -> Result<Page<K>, Refusal>
-        ensures { answered (paged K.bytes) result ≡ page_of self.now (store K.bytes tables.now) place }
-    {
-        self.fitted(tables)?;
+        let lent = self.fitted(tables)?;
         if place >= usize::from(self.pages) {
             return Err(Refusal::Page);
         }
-        tables.pages.get(place).ok_or(Refusal::Page)
+        lent.tables.pages.get(place).ok_or(Refusal::Page)
     }
 
-    // The cells of the book: as many as the replica counts.
+    // The cells of the book: as many as the replica counts. For any tables, where a `Fitted` would ask more.
     pub fn book_cells<'t, K: Entry>(&self, tables: &'t Tables<'_, K>) -> &'t [Option<Page<K>>]
         ensures { result.now ≡ take self.now.pages tables.now.pages }
     {
@@ -39,7 +34,7 @@ impl Replica {
         cells.get(..usize::from(self.pages)).unwrap_or(cells)
     }
 
-    // Whether the entry is in the book.
+    // Whether the entry is in the book, for any tables, as `book_cells`.
     pub fn booked<K: Entry>(&self, tables: &Tables<'_, K>, x: &K) -> bool
         ensures { result ≡ stands_in_book (sameness (plan self.now)) (book_of self.now (store K.bytes tables.now)) (K.bytes x.now) }
     {

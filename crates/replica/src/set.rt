@@ -1,7 +1,8 @@
 ghost use Rattle.std.specs.Prelude.{◌≡◌, ◌<◌, ◌≤◌};
 ghost use Rattle.common.specs.Quorums.{faults, echoes};
 
-// The numbers of a set of replicas, and the own one. They stay as they were made.
+// The numbers of a set of replicas, and the own one. They stay as they were made. `n` and `w` are
+// fields and no `Grid` within: many clauses cite `set.n`, and `set.grid.n` would be no plainer.
 #[derive(Clone, Copy, PartialEq, Eq)]
 pub struct Set {
     // How many replicas there are.

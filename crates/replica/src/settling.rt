@@ -1,7 +1,7 @@
 // Whether one fits where something may be held already.
 ghost use Rattle.std.specs.Prelude.{◌≡◌};
 ghost use Rattle.common.specs.Refusals.{numbered};
-ghost use Rattle.replica.specs.Holding.{taken_of, settled_by};
+ghost use Rattle.replica.specs.Holding.{settled_by};
 
 use common::Refusal;
 
@@ -11,17 +11,7 @@ pub fn settle<T: PartialEq + Copy>(held: Option<T>, item: T) -> Result<(), Refus
 {
     match held {
         None => Ok(()),
-        Some(old) => taken(old == item),
-    }
-}
-
-// It is held already: the same, or another.
-fn taken(same: bool) -> Result<(), Refusal>
-    ensures { numbered result ≡ taken_of same }
-{
-    if same {
-        Err(Refusal::Held)
-    } else {
-        Err(Refusal::Other)
+        Some(old) if old == item => Err(Refusal::Held),
+        Some(_) => Err(Refusal::Other),
     }
 }

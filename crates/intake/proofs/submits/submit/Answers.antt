@@ -1,14 +1,27 @@
-use Rattle.std.proofs.Common.{ℕ, Result, sym, subst}
-use Rattle.replica.specs.declared.state.Replica.{Replica}
-use Rattle.replica.specs.Store.{Store, store}
-use Rattle.intake.specs.Submitting.{Submits}
-use Rattle.intake.proofs.Submitted.{submits_law}
+use Rattle.std.proofs.Common.{◌≡◌, ℕ, true, List, sym, subst, rules}
+use Rattle.theory.specs.Statement.{Stmt}
+use Rattle.theory.specs.Calls.{ranged}
+use Rattle.replica.specs.Store.{store}
+use Rattle.replica.specs.View.{plan, box}
+use Rattle.replica.specs.Claims.{claim_of}
+use Rattle.intake.proofs.Submitted.{offers, send_ranged, submits_by}
 use Rattle.intake.proofs.submits.submit.Goals as goal
 
-pub returns-clause-submits : goal.returns-clause-submits
-returns-clause-submits g c =
+pub hold-requires-clause-ranged : goal.hold-requires-clause-ranged
+hold-requires-clause-ranged g c =
     let k = g.K.Entry in
     let m = c.args.replica.now in
     let t = store k.bytes c.args.tables.now in
     let s = c.args.s.now in
-    subst (λ (p : Result (Unit {0}) ℕ × Replica × Store). Submits k.valid m t s p.0 p.1 p.2) (sym c.enter.ensures) (submits_law k.WIDTH k.valid m t s g.met.K.Entry.wide)
+    let f = offers k.WIDTH k.valid m t s (claim_of k.bytes c.in_ok-claim.claim) (sym c.in_ok-claim.ensures) in
+    subst (λ (x : Stmt (List ℕ)). ranged (plan m) (box m t) x ≡ true) f.2 (send_ranged k.WIDTH k.valid m t s f.0 f.1)
+
+pub returns-in_err-claim-clause-submits : goal.returns-in_err-claim-clause-submits
+returns-in_err-claim-clause-submits g c =
+    let k = g.K.Entry in
+    submits_by k.WIDTH k.valid c.args.replica.now (store k.bytes c.args.tables.now) c.args.s.now g.met.K.Entry.wide _ _ _ (search rules)
+
+pub returns-clause-submits : goal.returns-clause-submits
+returns-clause-submits g c =
+    let k = g.K.Entry in
+    submits_by k.WIDTH k.valid c.args.replica.now (store k.bytes c.args.tables.now) c.args.s.now g.met.K.Entry.wide _ _ _ (search rules)

@@ -26,7 +26,7 @@ module _ {X : Type 0} where
 
 pub returns : goal.returns
 returns g c =
-    let m = c.args.replica.now in
-    let t = store g.K.Entry.bytes c.args.tables.now in
+    let m = c.args.lent.now.replica.now in
+    let t = store g.K.Entry.bytes c.args.lent.now.tables.now in
     let own = λ (s : ℕ). view m t m.set.me (at_send s) in
     found own m.set.w c.find.result (first_from_Range _ _ _ c.find.result (λ s. absent (own s) ≡ true) (λ s. absent (own s) ≡ false) c.find.ensures.ran (λ x q k. search rules) (λ x q k. search rules))
