@@ -11,21 +11,33 @@ use crate::slots::{entry_at, send_at};
 use common::{EPOCHS, ROUNDS};
 use entry::Entry;
 use replica::{Claim, Fitted, Replica};
+use std::marker::Model;
 
-// The board from a place on.
+// The board from a place on, seen as the list of what stands there.
 #[derive(Drop)]
 pub struct Board<'a, 't, K: Entry> {
     pub lent: Fitted<'a, 't, K>,
     pub place: usize,
 }
 
+impl<'a, 't, K: Entry> Model for Board<'a, 't, K> {
+    ghost use Rattle.std.specs.Prelude.{ℕ, List};
+    ghost use Rattle.theory.specs.Statement.{Stmt};
+    ghost use Rattle.replica.specs.Store.{store};
+    ghost use Rattle.showing.specs.Boards.{standing};
+
+    ghost Value = { List (Stmt (List ℕ)) };
+
+    ghost view = { λ b. standing b.place b.lent.replica.now (store K.bytes b.lent.tables.now) };
+}
+
 // The claims that stand there, in their order.
 impl<'a, 't, K: Entry> Iterator for Board<'a, 't, K> {
     type Item = Claim<K>;
 
-    ghost next_gives = { YieldsFirstBy (claim_of K.bytes) (λ b. standing b.place b.lent.replica.now (store K.bytes b.lent.tables.now)) };
+    ghost next_gives = { YieldsFirstBy (claim_of K.bytes) (λ left. left) };
 
-    ghost remaining = { item_count (λ b. standing b.place b.lent.replica.now (store K.bytes b.lent.tables.now)) };
+    ghost remaining = { item_count (λ left. left) };
 
     fn next(&mut self) -> Option<Claim<K>> {
         for i in self.place..places(self.lent.replica) {

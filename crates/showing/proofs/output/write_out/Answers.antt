@@ -9,7 +9,7 @@ use Rattle.common.specs.declared.refusal.Refusal.TheVariants as refusals
 use Rattle.wire.specs.Codec.{unfit}
 use Rattle.replica.specs.Store.{store}
 use Rattle.replica.proofs.Accepting.{accepted}
-use Rattle.showing.specs.Boards.{board_of, standing}
+use Rattle.showing.specs.Boards.{board_of}
 use Rattle.showing.specs.Spoken.{spoken, spelled}
 use Rattle.showing.specs.Showing.{lay_of, show_of}
 use Rattle.showing.proofs.Standing.{store_wide}
@@ -58,8 +58,7 @@ pub returns : goal.returns
 returns g c =
     let b = g.K.Entry.bytes in
     let lent = c.in_ok-lent.lent in
-    let rest = c.in_ok-rest.rest in
-    let ss = standing rest.place rest.lent.replica.now (store b rest.lent.tables.now) in
+    let ss = c.in_ok-rest.rest in
     let n = c.args.number in
     let out = c.args.out.now in
     let kept = MatchOption-at_some _ _ _ c.in_ok-rest.ensures.ok_part c.skip.ensures in
