@@ -1,5 +1,4 @@
 pub mod Wording
-pub mod Owning
 pub mod Ordering
 pub mod Skipping
 pub mod Laying

@@ -33,7 +33,8 @@ fn finish_bit(replica: &Replica, epoch: u16) -> Option<bool>
     }
 }
 
-// The vote `j` of the current epoch: in each round the values, seen and confirm.
+// The vote `j` of the current epoch: in each round the values, seen and confirm. `j % 4` is that order; a table of
+// closures would be no plainer. Behind the last epoch of the week there is none.
 pub fn vote_at<K: Entry>(replica: &Replica, j: usize) -> Option<Claim<K>>
     requires { j < 64 }
     ensures { (t : Store) → option_map (claim_of K.bytes) result ≡ own (box replica.now t) (by_round replica.now.epoch j) }

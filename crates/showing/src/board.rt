@@ -55,7 +55,8 @@ fn places(replica: &Replica) -> usize
     ensures { (t : Store) → result ≡ length (board replica.now t) }
 {
     let set = &replica.set;
-    set.w as usize + 3 * set.grid().slots() + EPOCHS as usize + 4 * ROUNDS as usize
+    let (epochs, rounds) = (usize::from(EPOCHS), usize::from(ROUNDS));
+    usize::from(set.w) + 3 * set.grid().slots() + epochs + 4 * rounds
 }
 
 // What stands at the place `i`.
@@ -64,28 +65,17 @@ fn claim_at<K: Entry>(lent: &Fitted<'_, '_, K>, i: usize) -> Option<Claim<K>>
     ensures { option_map (claim_of K.bytes) result ≡ slice_index_or (board lent.now.replica.now (store K.bytes lent.now.tables.now)) i None }
 {
     let set = &lent.replica.set;
-    let w = set.w as usize;
+    let w = usize::from(set.w);
     if i < w {
         return send_at(lent, i as u8);
     }
     let i = i - w;
-    let rows = set.n as usize * w;
-    if i < rows {
-        let echo = |queue, slot, item| Claim::Echo { queue, slot, item };
-        return entry_at(&lent.tables.echoes, set, i, echo);
+    let entries = 3 * set.grid().slots();
+    if i < entries {
+        return entry_at(lent, i);
     }
-    let i = i - rows;
-    if i < rows {
-        let ready = |queue, slot, item| Claim::Ready { queue, slot, item };
-        return entry_at(&lent.tables.readies, set, i, ready);
-    }
-    let i = i - rows;
-    if i < rows {
-        let have = |queue, slot, item| Claim::Have { queue, slot, item };
-        return entry_at(&lent.tables.haves, set, i, have);
-    }
-    let i = i - rows;
-    let epochs = EPOCHS as usize;
+    let i = i - entries;
+    let epochs = usize::from(EPOCHS);
     if i < epochs {
         return finish_at(lent.replica, i as u16);
     }

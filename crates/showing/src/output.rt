@@ -61,17 +61,6 @@ pub fn show<K: Entry>(
     ensures value { (answered pair_of result, out.new) ≡ show_of replica.now (store K.bytes tables.now) number out.old }
     ensures law { Shows K.WIDTH replica.now (store K.bytes tables.now) }
 {
-    write_out(replica, tables, number, out)
-}
-
-fn write_out<K: Entry>(
-    replica: &Replica,
-    tables: &Tables<'_, K>,
-    number: usize,
-    out: &mut [u8],
-) -> Result<Shown, Refusal>
-    ensures { (answered pair_of result, out.new) ≡ show_of replica.now (store K.bytes tables.now) number out.old }
-{
     let lent = replica.fitted(tables)?;
     let board = Board { lent, place: 0 };
     let rest = skip(board, number).ok_or(Refusal::Number)?;
