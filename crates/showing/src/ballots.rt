@@ -33,13 +33,13 @@ fn finish_bit(replica: &Replica, epoch: u16) -> Option<bool>
     }
 }
 
-// The vote `j` of the current epoch: in each round the values, seen and confirm. `j % 4` is that order; a table of
-// closures would be no plainer. Behind the last epoch of the week there is none.
+// The vote `j` of the current epoch: in each round the values, seen and confirm.
 pub fn vote_at<K: Entry>(replica: &Replica, j: usize) -> Option<Claim<K>>
     requires { j < 64 }
     ensures { (t : Store) → option_map (claim_of K.bytes) result ≡ own (box replica.now t) (by_round replica.now.epoch j) }
 {
     let epoch = replica.epoch;
+    // Behind the week's end there are none.
     if epoch >= EPOCHS {
         return None;
     }
@@ -47,6 +47,7 @@ pub fn vote_at<K: Entry>(replica: &Replica, j: usize) -> Option<Claim<K>>
     let k = j / 4;
     let votes = &replica.votes.rounds[k];
     let round = k as u8;
+    // The order of a round's four votes: a table of four closures would be no plainer.
     match j % 4 {
         0 => votes.values.has(false, me).then_some(Claim::Value {
             epoch,

@@ -40,13 +40,10 @@ impl<'a, 't, K: Entry> Iterator for Board<'a, 't, K> {
     ghost remaining = { item_count (λ left. left) };
 
     fn next(&mut self) -> Option<Claim<K>> {
-        for i in self.place..places(self.lent.replica) {
-            if let Some(claim) = claim_at(&self.lent, i) {
-                self.place = i + 1;
-                return Some(claim);
-            }
-        }
-        None
+        let end = places(self.lent.replica);
+        let (i, claim) = (self.place..end).find_map(|i| Some((i, claim_at(&self.lent, i)?)))?;
+        self.place = i + 1;
+        Some(claim)
     }
 }
 

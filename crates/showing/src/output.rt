@@ -32,6 +32,7 @@ fn lay<K: Entry>(board: Board<'_, '_, K>, number: usize, out: &mut [u8]) -> Resu
     requires fit { AllByRecursion (λ s. unfit K.WIDTH (spoken s) ≡ None) board }
     ensures { (answered pair_of result, out.new) ≡ lay_of number (map spelled board.entry) out.old }
 {
+    // Both are the answer: how far was written, and the number behind it.
     let mut at = 0;
     let mut next = number;
     for claim in board {
