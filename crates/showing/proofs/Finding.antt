@@ -36,8 +36,8 @@ module _ {F R : Type 0} (g : Mut F (ℕ × Unit {0}) (Option R)) (f : F) (a b : 
         omega (arith, from, to, runs.0),
         says _ (Some y) (and_at (λ x. Called g f (x, tt) (Some y) f) (p.at i) _ (runs.3 i low) h.0),
         λ k lo hi.
-        let e : p.from.start + (k - a) ≡ k = omega (arith, from) in
-        subst (λ k. Says k None) e (says _ None (and_at (λ x. Called g f (x, tt) None f) (p.at (k - a)) _ (runs.3 (k - a) (omega (arith, from))) (h.1 (k - a) (omega (arith, from))))),
+            let e : p.from.start + (k - a) ≡ k = omega (arith, from) in
+            subst (λ k. Says k None) e (says _ None (and_at (λ x. Called g f (x, tt) None f) (p.at (k - a)) _ (runs.3 (k - a) (omega (arith, from))) (h.1 (k - a) (omega (arith, from))))),
       )
 
 filled_skip : {A : Type 0} (os : List (Option A)) (n : ℕ) → ((k : ℕ) → k < n → get_or os k None ≡ None) → filled os ≡ filled (drop n os)
