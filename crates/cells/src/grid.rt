@@ -1,4 +1,4 @@
-ghost use Rattle.std.specs.Prelude.{◌≡◌, ◌+◌, ◌*◌, ◌<◌, ◌≤◌};
+ghost use Rattle.std.specs.Prelude.{◌≡◌, ◌+◌, ◌*◌, ◌/◌, ◌%◌, ◌<◌, ◌≤◌};
 ghost use Rattle.cells.specs.Rows.{place_of, row_of, slot_of};
 
 // How many replicas a set has, each with a queue of its own, and how many slots a queue has.
@@ -53,5 +53,16 @@ impl Grid {
         ensures within { result < self.n * self.w }
     {
         usize::from(queue) * usize::from(self.w) + usize::from(slot)
+    }
+
+    // The queue and the slot that have a place among the slots of all queues.
+    pub fn slot_at(self, place: usize) -> (u8, u8)
+        requires { place < self.n * self.w }
+        ensures value { result ≡ (place / self.w, place % self.w) }
+        ensures low { result.0 < self.n }
+        ensures inside { result.1 < self.w }
+    {
+        let w = usize::from(self.w);
+        ((place / w) as u8, (place % w) as u8)
     }
 }

@@ -1,5 +1,4 @@
 pub mod Wording
-pub mod Owning
 pub mod Ordering
 pub mod Skipping
 pub mod Laying
@@ -9,3 +8,4 @@ pub mod Filling
 pub mod Stepping
 pub mod Promising
 pub mod Ranking
+pub mod Finding

@@ -1,16 +1,13 @@
 -- The board: all that a replica holds from itself, in a fixed order.
-use Rattle.std.specs.Prelude.{◌≡◌, ℕ, ◌*◌, ◌/◌, ◌%◌, true, false, cond, List, [], ◌∷◌, ◌++◌, map, drop, Some, None, Option, ◌==◌}
+use Rattle.std.specs.Prelude.{ℕ, ◌*◌, ◌/◌, ◌%◌, true, false, cond, List, [], ◌∷◌, ◌++◌, map, drop, Some, None, Option, ◌==◌}
 use Rattle.std.specs.List.{range_with_len}
 use Rattle.common.specs.Limits.{epochs, rounds}
 use Rattle.theory.specs.Statement.{Stmt, Cell, at_send, at_echo, at_ready, at_have, at_value, at_seen, at_confirm, at_finish}
 use Rattle.theory.specs.Machine.{own}
-use Rattle.cells.specs.Rows.{Cells}
 use Rattle.replica.specs.declared.set.Set.{Set}
 use Rattle.replica.specs.declared.state.Replica.{Replica}
-use Rattle.replica.specs.declared.claim.Claim.{Claim}
-use Rattle.replica.specs.Claims.{claim_of}
 use Rattle.replica.specs.Store.{Store}
-use Rattle.replica.specs.View.{row_cell, box}
+use Rattle.replica.specs.View.{box}
 
 -- the cells f 0 to f (k - 1)
 unfoldable pub run : ℕ → (ℕ → Cell) → List Cell
@@ -19,6 +16,15 @@ run k f = map f (range_with_len 0 k)
 -- the slots of all queues, with w slots each, one queue behind the other
 abbrev pub by_slot : ℕ → (ℕ → ℕ → Cell) → ℕ → Cell
 by_slot w f j = f (j / w) (j % w)
+
+-- the slots of all queues, of the echoes, the readies and the haves, one table behind the other
+abbrev pub by_table : Set → ℕ → Cell
+by_table set i =
+    let w = set.w in
+    let rows = set.n * w in
+    cond (i / rows == 0) (by_slot w at_echo (i % rows))
+    (cond (i / rows == 1) (by_slot w at_ready (i % rows))
+    (by_slot w at_have (i % rows)))
 
 -- the four cells of a round
 abbrev pub by_kind : ℕ → ℕ → ℕ → Cell
@@ -57,11 +63,3 @@ standing p m t = filled (drop p (places m t))
 
 abbrev pub board_of : Replica → Store → List (Stmt (List ℕ))
 board_of m t = filled (places m t)
-
--- what is made of a queue, a slot and an entry states st of them
-abbrev pub Makes : {K : Type 0} → (K → List ℕ) → (ℕ → ℕ → K → Claim K → Type 0) → (ℕ → ℕ → List ℕ → Stmt (List ℕ)) → Type 0
-Makes {K} bytes made st = (q s : ℕ) (x : K) (c : Claim K) → made q s x c → claim_of bytes c ≡ st q s (bytes x)
-
--- the replica's own statement, which st makes, of the slot j of all queues
-abbrev pub own_row : Set → Cells → (ℕ → ℕ → List ℕ → Stmt (List ℕ)) → ℕ → Option (Stmt (List ℕ))
-own_row set cells st j = row_cell set.n set.w cells (st (j / set.w) (j % set.w)) (j / set.w) (j % set.w) set.me

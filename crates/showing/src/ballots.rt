@@ -39,6 +39,7 @@ pub fn vote_at<K: Entry>(replica: &Replica, j: usize) -> Option<Claim<K>>
     ensures { (t : Store) → option_map (claim_of K.bytes) result ≡ own (box replica.now t) (by_round replica.now.epoch j) }
 {
     let epoch = replica.epoch;
+    // Behind the week's end there are none.
     if epoch >= EPOCHS {
         return None;
     }
@@ -46,6 +47,7 @@ pub fn vote_at<K: Entry>(replica: &Replica, j: usize) -> Option<Claim<K>>
     let k = j / 4;
     let votes = &replica.votes.rounds[k];
     let round = k as u8;
+    // The order of a round's four votes: a table of four closures would be no plainer.
     match j % 4 {
         0 => votes.values.has(false, me).then_some(Claim::Value {
             epoch,

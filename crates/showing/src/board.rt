@@ -11,30 +11,39 @@ use crate::slots::{entry_at, send_at};
 use common::{EPOCHS, ROUNDS};
 use entry::Entry;
 use replica::{Claim, Fitted, Replica};
+use std::marker::Model;
 
-// The board from a place on.
+// The board from a place on, seen as the list of what stands there.
 #[derive(Drop)]
 pub struct Board<'a, 't, K: Entry> {
     pub lent: Fitted<'a, 't, K>,
     pub place: usize,
 }
 
+impl<'a, 't, K: Entry> Model for Board<'a, 't, K> {
+    ghost use Rattle.std.specs.Prelude.{ℕ, List};
+    ghost use Rattle.theory.specs.Statement.{Stmt};
+    ghost use Rattle.replica.specs.Store.{store};
+    ghost use Rattle.showing.specs.Boards.{standing};
+
+    ghost Value = { List (Stmt (List ℕ)) };
+
+    ghost view = { λ b. standing b.place b.lent.replica.now (store K.bytes b.lent.tables.now) };
+}
+
 // The claims that stand there, in their order.
 impl<'a, 't, K: Entry> Iterator for Board<'a, 't, K> {
     type Item = Claim<K>;
 
-    ghost next_gives = { YieldsFirstBy (claim_of K.bytes) (λ b. standing b.place b.lent.replica.now (store K.bytes b.lent.tables.now)) };
+    ghost next_gives = { YieldsFirstBy (claim_of K.bytes) (λ left. left) };
 
-    ghost remaining = { item_count (λ b. standing b.place b.lent.replica.now (store K.bytes b.lent.tables.now)) };
+    ghost remaining = { item_count (λ left. left) };
 
     fn next(&mut self) -> Option<Claim<K>> {
-        for i in self.place..places(self.lent.replica) {
-            if let Some(claim) = claim_at(&self.lent, i) {
-                self.place = i + 1;
-                return Some(claim);
-            }
-        }
-        None
+        let end = places(self.lent.replica);
+        let (i, claim) = (self.place..end).find_map(|i| Some((i, claim_at(&self.lent, i)?)))?;
+        self.place = i + 1;
+        Some(claim)
     }
 }
 
@@ -43,7 +52,8 @@ fn places(replica: &Replica) -> usize
     ensures { (t : Store) → result ≡ length (board replica.now t) }
 {
     let set = &replica.set;
-    set.w as usize + 3 * set.grid().slots() + EPOCHS as usize + 4 * ROUNDS as usize
+    let (epochs, rounds) = (usize::from(EPOCHS), usize::from(ROUNDS));
+    usize::from(set.w) + 3 * set.grid().slots() + epochs + 4 * rounds
 }
 
 // What stands at the place `i`.
@@ -52,28 +62,17 @@ fn claim_at<K: Entry>(lent: &Fitted<'_, '_, K>, i: usize) -> Option<Claim<K>>
     ensures { option_map (claim_of K.bytes) result ≡ slice_index_or (board lent.now.replica.now (store K.bytes lent.now.tables.now)) i None }
 {
     let set = &lent.replica.set;
-    let w = set.w as usize;
+    let w = usize::from(set.w);
     if i < w {
         return send_at(lent, i as u8);
     }
     let i = i - w;
-    let rows = set.n as usize * w;
-    if i < rows {
-        let echo = |queue, slot, item| Claim::Echo { queue, slot, item };
-        return entry_at(&lent.tables.echoes, set, i, echo);
+    let entries = 3 * set.grid().slots();
+    if i < entries {
+        return entry_at(lent, i);
     }
-    let i = i - rows;
-    if i < rows {
-        let ready = |queue, slot, item| Claim::Ready { queue, slot, item };
-        return entry_at(&lent.tables.readies, set, i, ready);
-    }
-    let i = i - rows;
-    if i < rows {
-        let have = |queue, slot, item| Claim::Have { queue, slot, item };
-        return entry_at(&lent.tables.haves, set, i, have);
-    }
-    let i = i - rows;
-    let epochs = EPOCHS as usize;
+    let i = i - entries;
+    let epochs = usize::from(EPOCHS);
     if i < epochs {
         return finish_at(lent.replica, i as u16);
     }

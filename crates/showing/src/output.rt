@@ -18,7 +18,7 @@ use replica::{Replica, Tables};
 
 // The board behind its first `number` statements, if there are so many.
 fn skip<'a, 't, K: Entry>(mut board: Board<'a, 't, K>, number: usize) -> Option<Board<'a, 't, K>>
-    ensures { MatchOption result (length (standing board.entry.place board.entry.lent.replica.now (store K.bytes board.entry.lent.tables.now)) < number) (λ rest. (number ≤ length (standing board.entry.place board.entry.lent.replica.now (store K.bytes board.entry.lent.tables.now))) × (standing rest.place rest.lent.replica.now (store K.bytes rest.lent.tables.now) ≡ drop number (standing board.entry.place board.entry.lent.replica.now (store K.bytes board.entry.lent.tables.now)))) }
+    ensures { MatchOption result (length board.entry < number) (λ rest. (number ≤ length board.entry) × (rest ≡ drop number board.entry)) }
 {
     for _ in 0..number {
         board.next()?;
@@ -28,10 +28,11 @@ fn skip<'a, 't, K: Entry>(mut board: Board<'a, 't, K>, number: usize) -> Option<
 
 // Writes the statements of a board, which begin at `number`, while they fit.
 fn lay<K: Entry>(board: Board<'_, '_, K>, number: usize, out: &mut [u8]) -> Result<Shown, Refusal>
-    requires few { number + length (standing board.place board.lent.replica.now (store K.bytes board.lent.tables.now)) < 2 ^ 64 }
-    requires fit { AllByRecursion (λ s. unfit K.WIDTH (spoken s) ≡ None) (standing board.place board.lent.replica.now (store K.bytes board.lent.tables.now)) }
-    ensures { (answered pair_of result, out.new) ≡ lay_of number (map spelled (standing board.entry.place board.entry.lent.replica.now (store K.bytes board.entry.lent.tables.now))) out.old }
+    requires few { number + length board < 2 ^ 64 }
+    requires fit { AllByRecursion (λ s. unfit K.WIDTH (spoken s) ≡ None) board }
+    ensures { (answered pair_of result, out.new) ≡ lay_of number (map spelled board.entry) out.old }
 {
+    // Both are the answer: how far was written, and the number behind it.
     let mut at = 0;
     let mut next = number;
     for claim in board {
@@ -60,17 +61,6 @@ pub fn show<K: Entry>(
 ) -> Result<Shown, Refusal>
     ensures value { (answered pair_of result, out.new) ≡ show_of replica.now (store K.bytes tables.now) number out.old }
     ensures law { Shows K.WIDTH replica.now (store K.bytes tables.now) }
-{
-    write_out(replica, tables, number, out)
-}
-
-fn write_out<K: Entry>(
-    replica: &Replica,
-    tables: &Tables<'_, K>,
-    number: usize,
-    out: &mut [u8],
-) -> Result<Shown, Refusal>
-    ensures { (answered pair_of result, out.new) ≡ show_of replica.now (store K.bytes tables.now) number out.old }
 {
     let lent = replica.fitted(tables)?;
     let board = Board { lent, place: 0 };

@@ -42,41 +42,29 @@ fn worded<'a, K: Entry>(claim: &Claim<K>, item: &'a [u8]) -> Statement<'a>
     requires { (x : List ℕ) → entry_stated (claim_of K.bytes claim.now) ≡ Some x → item.now ≡ x }
     ensures { message_of result ≡ spoken (claim_of K.bytes claim.now) }
 {
-    match claim {
-        Claim::Send { slot, .. } => Statement::Send { slot: *slot, item },
-        Claim::Echo { queue, slot, .. } => Statement::Echo {
-            queue: *queue,
-            slot: *slot,
-            item,
-        },
-        Claim::Ready { queue, slot, .. } => Statement::Ready {
-            queue: *queue,
-            slot: *slot,
-            item,
-        },
-        Claim::Have { queue, slot, .. } => Statement::Have {
-            queue: *queue,
-            slot: *slot,
-            item,
-        },
+    match *claim {
+        Claim::Send { slot, .. } => Statement::Send { slot, item },
+        Claim::Echo { queue, slot, .. } => Statement::Echo { queue, slot, item },
+        Claim::Ready { queue, slot, .. } => Statement::Ready { queue, slot, item },
+        Claim::Have { queue, slot, .. } => Statement::Have { queue, slot, item },
         Claim::Value { epoch, round, bit } => Statement::Value {
-            epoch: *epoch,
-            round: *round,
-            bit: u8::from(*bit),
+            epoch,
+            round,
+            bit: u8::from(bit),
         },
         Claim::Seen { epoch, round, bit } => Statement::Seen {
-            epoch: *epoch,
-            round: *round,
-            bit: u8::from(*bit),
+            epoch,
+            round,
+            bit: u8::from(bit),
         },
         Claim::Confirm { epoch, round, set } => Statement::Confirm {
-            epoch: *epoch,
-            round: *round,
-            set: u8::from(*set),
+            epoch,
+            round,
+            set: u8::from(set),
         },
         Claim::Finish { epoch, bit } => Statement::Finish {
-            epoch: *epoch,
-            bit: u8::from(*bit),
+            epoch,
+            bit: u8::from(bit),
         },
     }
 }

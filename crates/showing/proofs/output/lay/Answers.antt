@@ -4,8 +4,6 @@ use Rattle.std.specs.List.{AllByRecursion}
 use Rattle.theory.specs.Statement.{Stmt}
 use Rattle.wire.specs.Codec.{unfit}
 use Rattle.replica.specs.Claims.{claim_of}
-use Rattle.replica.specs.Store.{store}
-use Rattle.showing.specs.Boards.{standing}
 use Rattle.showing.specs.Spoken.{spoken, spelled}
 use Rattle.showing.proofs.Laying.{Laid, laid_start, laid_count, laid_more, laid_stop, laid_first, laid_end}
 use Rattle.showing.proofs.output.lay.Goals as goal
@@ -21,18 +19,15 @@ onward w was all number at next out left rest s e = subst (Still w was all numbe
 
 pub loop-claim-init : goal.loop-claim-init
 loop-claim-init g c =
-    let b = g.K.Entry.bytes in
     let out = c.args.out.now in
-    let all = standing c.args.board.place c.args.board.lent.replica.now (store b c.args.board.lent.tables.now) in
-    subst (λ r. Still g.K.Entry.WIDTH out all c.args.number 0 c.args.number out (standing r.place r.lent.replica.now (store b r.lent.tables.now)))
+    subst (Still g.K.Entry.WIDTH out c.args.board c.args.number 0 c.args.number out)
     (sym c.into_iter-claim-iterator.ensures.into_iter_gives)
-    (c.requires.fit, laid_start out (map spelled all) c.args.number)
+    (c.requires.fit, laid_start out (map spelled c.args.board) c.args.number)
 
 pub overflow_add-next : goal.overflow_add-next
 overflow_add-next g c =
     let l = (onward _ _ _ _ _ _ _ _ _ (claim_of g.K.Entry.bytes c.in-Some.claim) c.in-Some.ensures.steps c.loop-claim.invariant).1 in
-    let all = standing c.args.board.place c.args.board.lent.replica.now (store g.K.Entry.bytes c.args.board.lent.tables.now) in
-    omega (arith, laid_count _ _ _ _ _ _ _ l, length-map all spelled, c.requires.few)
+    omega (arith, laid_count _ _ _ _ _ _ _ l, length-map c.args.board spelled, c.requires.few)
 
 pub loop-claim-preserved : goal.loop-claim-preserved
 loop-claim-preserved g c =
