@@ -1,5 +1,5 @@
 -- The list of a frame, one step of its walk after the other.
-use Rattle.std.proofs.Common.{◌≡◌, ℕ, ◌+◌, Bool, true, false, cond, List, [], ◌∷◌, ◌++◌, length, Some, None, Ok, Err, Option, Result, MatchResult, sym, refl, ap, ◌∙◌, append_assoc, append-nil, add-zero, add_assoc, zero-add, arith}
+use Rattle.std.proofs.Common.{◌≡◌, ℕ, ◌+◌, Bool, true, false, cond, List, [], ◌∷◌, ◌++◌, length, Some, None, Ok, Err, Option, Result, MatchResult, sym, refl, ap, ◌∙◌, append_assoc, add_assoc, zero-add, arith}
 use Rattle.std.specs.Option.{option_map}
 use Rattle.common.specs.Refusals.{number_of}
 use Rattle.common.specs.declared.refusal.Refusal.TheVariants as refusals
@@ -10,17 +10,14 @@ use Rattle.wire.specs.Steps.{Step, step_of, steps_from, parts_in}
 use Rattle.wire.specs.declared.part.Part.{Part}
 use Rattle.wire.specs.declared.part.Fault.{Fault}
 use Rattle.listing.specs.Rows.{Kind, row_of}
-use Rattle.listing.specs.Lists.{item_read, message_row, part_row, holds, sound_at, part_read, Listed, onto, list_from}
+use Rattle.listing.specs.Lists.{item_read, message_row, part_row, holds, sound_at, part_read, Listed, grown, onto, list_from}
 
--- a list behind rows that stand already
-abbrev pub behind : List ℕ → ℕ → Listed → Listed
-behind rows n l = record { rows = rows ++ l.rows; count = n + l.count; fault = l.fault }
+-- a list behind one that has no fault
+abbrev pub behind : Listed → Listed → Listed
+behind l more = record { rows = l.rows ++ more.rows; count = l.count + more.count; fault = more.fault }
 
-pub behind_none : (l : Listed) → behind [] 0 l ≡ l
+pub behind_none : (l : Listed) → behind (record { rows = []; count = 0; fault = None }) l ≡ l
 behind_none l = λ i. record { rows = l.rows; count = zero-add l.count i; fault = l.fault }
-
-pub behind_end : (rows : List ℕ) (n : ℕ) (fault : Option (ℕ × ℕ)) → behind rows n (record { rows = []; count = 0; fault = fault }) ≡ record { rows = rows; count = n; fault = fault }
-behind_end rows n fault = λ i. record { rows = append-nil rows i; count = add-zero n i; fault = fault }
 
 -- the list of a walk's steps
 abbrev pub listed : Kind → List Step → Listed
@@ -68,29 +65,17 @@ module _ (k : Kind) (p : ℕ) (t : List ℕ) where
       (ap (message_row k p) is ∙ miss.0, miss.1)
 
 -- one turn of the list: a step is a fault, or a part that is read
-module _ (k : Kind) (rows : List ℕ) (n : ℕ) (more : List Step) where
-  pub at_fault :
-      (step : Result Part Fault) (f : Fault) → Statements k.width (parts_in (step_of step ∷ more))
-      → MatchResult step (λ part. part_read k part.place part.bytes.now ≡ Err (number_of f.refusal, f.place)) (λ e. f ≡ e)
-      → behind rows n (listed k (step_of step ∷ more)) ≡ record { rows = rows; count = n; fault = Some (number_of f.refusal, f.place) }
-  at_fault (Err e) f whole is =
-      behind_end rows n (Some (number_of e.refusal, e.place))
-      ∙ ap (λ (e : Fault). record { rows = rows; count = n; fault = Some (number_of e.refusal, e.place) }) (sym is)
-  at_fault (Ok part) f whole is =
-      let missed = row_missed k part.place part.bytes.now whole.0.0 (number_of f.refusal, f.place) whole.0.1 is in
-      ap (λ o. behind rows n (onto o part.place (listed k more))) missed.0
-      ∙ behind_end rows n (Some (number_of refusals.Entry, part.place)) ∙ ap (λ f. record { rows = rows; count = n; fault = Some f }) (sym missed.1)
-
+module _ (k : Kind) (l : Listed) (more : List Step) where
   pub at_row :
       (step : Result Part Fault) (p : ℕ) (m : Message)
       → MatchResult step (λ part. part_read k part.place part.bytes.now ≡ Ok (p, m)) (λ e. ⊥)
-      → behind rows n (listed k (step_of step ∷ more)) ≡ behind (rows ++ row_of k p m) (n + 1) (listed k more)
+      → behind l (listed k (step_of step ∷ more)) ≡ behind (grown (row_of k p m) l) (listed k more)
   at_row (Err e) p m is = absurd is
   at_row (Ok part) p m is =
       let row = row_of k p m in
-      let l = listed k more in
-      ap (λ o. behind rows n (onto o part.place l)) (row_found k part.place part.bytes.now p m is)
-      ∙ (λ i. record { rows = sym (append_assoc rows row l.rows) i; count = sym (add_assoc n 1 l.count) i; fault = l.fault })
+      let r = listed k more in
+      ap (λ o. behind l (onto o part.place r)) (row_found k part.place part.bytes.now p m is)
+      ∙ (λ i. record { rows = sym (append_assoc l.rows row r.rows) i; count = sym (add_assoc l.count 1 r.count) i; fault = r.fault })
 
   pub whole_after : (step : Result Part Fault) → Statements k.width (parts_in (step_of step ∷ more)) → Statements k.width (parts_in more)
   whole_after (Ok part) whole = whole.1
