@@ -40,6 +40,6 @@ loop-step-preserved g c =
       whole_after k was more step (subst (λ l. Statements k.width (parts_in l)) steps i.1),
       ap (λ (l : Listed). l.fault) grows ∙ i.2,
       ap (λ l. behind l (listed k more)) grows
-      ∙ sym (at_row k was more step row.place (message_of row.statement) (search rules))
-      ∙ ap (λ x. behind was (listed k x)) (sym steps) ∙ i.3,
+          ∙ sym (at_row k was more step row.place (message_of row.statement) (search rules))
+          ∙ ap (λ x. behind was (listed k x)) (sym steps) ∙ i.3,
     )
