@@ -35,10 +35,6 @@ item_holds : (valid : List ℕ → Bool) (o : Option (List ℕ)) → holds valid
 item_holds valid None h = refl
 item_holds valid (Some x) h = rw h refl
 
-item_fails : (valid : List ℕ → Bool) (o : Option (List ℕ)) → holds valid o ≡ false → item_read valid o ≡ None
-item_fails valid None h = absurd (let z : ◌≡◌ {A = ℕ} 0 1 = cc in omega arith)
-item_fails valid (Some x) h = rw h refl
-
 module _ (k : Kind) (p : ℕ) (t : List ℕ) where
   sound_found : (b : Bool) (q : ℕ) (m n : Message) → holds k.valid (item_in n) ≡ b → cond {A = Result (ℕ × Message) (ℕ × ℕ)} b (Ok (p, n)) (Err (number_of refusals.Entry, p)) ≡ Ok (q, m)
       → message_row k p (Ok n) ≡ Some (row_of k q m)
@@ -53,16 +49,6 @@ module _ (k : Kind) (p : ℕ) (t : List ℕ) where
       by : (v : Result Message ℕ) → parse_of k.width t ≡ v → part_row k p t ≡ Some (row_of k q m)
       by (Ok n) is = ap (message_row k p) is ∙ sound_found (holds k.valid (item_in n)) q m n refl (sym (ap (sound_at k p) is) ∙ e)
       by (Err r) is = absurd (let f = sym (ap (sound_at k p) is) ∙ e in let z : ◌≡◌ {A = ℕ} 0 1 = cc in omega arith)
-
-  sound_missed : (b : Bool) (m : Message) (f : ℕ × ℕ) → holds k.valid (item_in m) ≡ b → cond {A = Result (ℕ × Message) (ℕ × ℕ)} b (Ok (p, m)) (Err (number_of refusals.Entry, p)) ≡ Err f
-      → (message_row k p (Ok m) ≡ None) × (f ≡ (number_of refusals.Entry, p))
-  sound_missed true m f h e = absurd (let z : ◌≡◌ {A = ℕ} 0 1 = cc in omega arith)
-  sound_missed false m f h e = (ap (option_map (λ _. row_of k p m)) (item_fails k.valid (item_in m) h), cc)
-
-  pub row_missed : (m : Message) (f : ℕ × ℕ) → parse_of k.width t ≡ Ok m → part_read k p t ≡ Err f → (part_row k p t ≡ None) × (f ≡ (number_of refusals.Entry, p))
-  row_missed m f is e =
-      let miss = sound_missed (holds k.valid (item_in m)) m f refl (sym (ap (sound_at k p) is) ∙ e) in
-      (ap (message_row k p) is ∙ miss.0, miss.1)
 
 -- one turn of the list: a step is a fault, or a part that is read
 module _ (k : Kind) (l : Listed) (more : List Step) where
