@@ -30,6 +30,7 @@ fn take_in<K: Entry>(
 }
 
 // Replays a day into a replica; answers a line for each entry and statement that is declined.
+#[tactic(auto, using(crate::proofs::Hearing::heard))]
 pub fn replay<K: Entry>(
     replica: &mut Replica,
     tables: &mut Tables<'_, K>,
@@ -38,17 +39,6 @@ pub fn replay<K: Entry>(
 ) -> Result<Vec<u8>, AllocError>
     ensures value { IfOk result (λ text. (text.items, replica.new, store K.bytes tables.new) ≡ day_of K.WIDTH K.valid replica.old (store K.bytes tables.old) day.now) }
     ensures heard { Heard K.WIDTH K.valid }
-{
-    run(replica, tables, heap, day)
-}
-
-fn run<K: Entry>(
-    replica: &mut Replica,
-    tables: &mut Tables<'_, K>,
-    heap: Global,
-    day: &[u8],
-) -> Result<Vec<u8>, AllocError>
-    ensures { IfOk result (λ text. (text.items, replica.new, store K.bytes tables.new) ≡ day_of K.WIDTH K.valid replica.old (store K.bytes tables.old) day.now) }
 {
     let mut text = Vec::new(heap);
     for found in Records::new(day) {

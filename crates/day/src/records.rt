@@ -34,6 +34,7 @@ impl<'a> Records<'a> {
     }
 }
 
+// It moves on by the length of what it found: this is the iterator that the loops go by.
 impl<'a> Iterator for Records<'a> {
     type Item = Result<Record<'a>, Torn>;
 

@@ -1,5 +1,7 @@
 // Replays a day of frames, read from standard input, into one replica. Prints a line for each entry and
-// statement that it declined, then its board as a table, then the file of its book.
+// statement that it declined and for a record that the day ends inside of, then its board as a table, then the
+// file of its book. Where no such replica can be made, it prints only a line with the refusal's number. So it
+// would behind what it printed, were the board or the file declined: its buffers have room for both.
 // The arguments name the kind of entry, the number of boxes, the replica's own number and the slots of a queue.
 // All that is printed is made by `day::replay`, `listing::record` and `printing::print`.
 #![tactic(auto)]
@@ -158,7 +160,8 @@ fn tell<K: Entry>(
     Ok(())
 }
 
-// The bytes that a call writes into a buffer; it answers how many they are.
+// The bytes that a call writes into a buffer; it answers how many they are. The buffer is made here, since `show`
+// and `print` write into a lent slice.
 fn filled<F: FnOnce(&mut [u8]) -> Result<usize, Refusal>>(
     heap: Global,
     write: F,

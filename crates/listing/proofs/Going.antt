@@ -1,5 +1,5 @@
 -- The list of a frame, one step of its walk after the other.
-use Rattle.std.proofs.Common.{◌≡◌, ℕ, ◌+◌, Bool, true, false, cond, List, [], ◌∷◌, ◌++◌, length, Some, None, Ok, Err, Option, Result, MatchResult, sym, refl, ap, ◌∙◌, append_assoc, append-nil, add-zero, add_assoc, zero-add, arith}
+use Rattle.std.proofs.Common.{◌≡◌, ℕ, ◌+◌, Bool, true, false, cond, List, [], ◌∷◌, ◌++◌, length, Some, None, Ok, Err, Option, Result, MatchResult, sym, refl, ap, ◌∙◌, append_assoc, add_assoc, zero-add, arith}
 use Rattle.std.specs.Option.{option_map}
 use Rattle.common.specs.Refusals.{number_of}
 use Rattle.common.specs.declared.refusal.Refusal.TheVariants as refusals
@@ -10,17 +10,14 @@ use Rattle.wire.specs.Steps.{Step, step_of, steps_from, parts_in}
 use Rattle.wire.specs.declared.part.Part.{Part}
 use Rattle.wire.specs.declared.part.Fault.{Fault}
 use Rattle.listing.specs.Rows.{Kind, row_of}
-use Rattle.listing.specs.Lists.{item_read, message_row, part_row, holds, sound_at, part_read, Listed, onto, list_from}
+use Rattle.listing.specs.Lists.{item_read, message_row, part_row, holds, sound_at, part_read, Listed, grown, onto, list_from}
 
--- a list behind rows that stand already
-abbrev pub behind : List ℕ → ℕ → Listed → Listed
-behind rows n l = record { rows = rows ++ l.rows; count = n + l.count; fault = l.fault }
+-- a list behind one that has no fault
+abbrev pub behind : Listed → Listed → Listed
+behind l more = record { rows = l.rows ++ more.rows; count = l.count + more.count; fault = more.fault }
 
-pub behind_none : (l : Listed) → behind [] 0 l ≡ l
+pub behind_none : (l : Listed) → behind (record { rows = []; count = 0; fault = None }) l ≡ l
 behind_none l = λ i. record { rows = l.rows; count = zero-add l.count i; fault = l.fault }
-
-pub behind_end : (rows : List ℕ) (n : ℕ) (fault : Option (ℕ × ℕ)) → behind rows n (record { rows = []; count = 0; fault = fault }) ≡ record { rows = rows; count = n; fault = fault }
-behind_end rows n fault = λ i. record { rows = append-nil rows i; count = add-zero n i; fault = fault }
 
 -- the list of a walk's steps
 abbrev pub listed : Kind → List Step → Listed
@@ -38,10 +35,6 @@ item_holds : (valid : List ℕ → Bool) (o : Option (List ℕ)) → holds valid
 item_holds valid None h = refl
 item_holds valid (Some x) h = rw h refl
 
-item_fails : (valid : List ℕ → Bool) (o : Option (List ℕ)) → holds valid o ≡ false → item_read valid o ≡ None
-item_fails valid None h = absurd (let z : ◌≡◌ {A = ℕ} 0 1 = cc in omega arith)
-item_fails valid (Some x) h = rw h refl
-
 module _ (k : Kind) (p : ℕ) (t : List ℕ) where
   sound_found : (b : Bool) (q : ℕ) (m n : Message) → holds k.valid (item_in n) ≡ b → cond {A = Result (ℕ × Message) (ℕ × ℕ)} b (Ok (p, n)) (Err (number_of refusals.Entry, p)) ≡ Ok (q, m)
       → message_row k p (Ok n) ≡ Some (row_of k q m)
@@ -57,40 +50,18 @@ module _ (k : Kind) (p : ℕ) (t : List ℕ) where
       by (Ok n) is = ap (message_row k p) is ∙ sound_found (holds k.valid (item_in n)) q m n refl (sym (ap (sound_at k p) is) ∙ e)
       by (Err r) is = absurd (let f = sym (ap (sound_at k p) is) ∙ e in let z : ◌≡◌ {A = ℕ} 0 1 = cc in omega arith)
 
-  sound_missed : (b : Bool) (m : Message) (f : ℕ × ℕ) → holds k.valid (item_in m) ≡ b → cond {A = Result (ℕ × Message) (ℕ × ℕ)} b (Ok (p, m)) (Err (number_of refusals.Entry, p)) ≡ Err f
-      → (message_row k p (Ok m) ≡ None) × (f ≡ (number_of refusals.Entry, p))
-  sound_missed true m f h e = absurd (let z : ◌≡◌ {A = ℕ} 0 1 = cc in omega arith)
-  sound_missed false m f h e = (ap (option_map (λ _. row_of k p m)) (item_fails k.valid (item_in m) h), cc)
-
-  pub row_missed : (m : Message) (f : ℕ × ℕ) → parse_of k.width t ≡ Ok m → part_read k p t ≡ Err f → (part_row k p t ≡ None) × (f ≡ (number_of refusals.Entry, p))
-  row_missed m f is e =
-      let miss = sound_missed (holds k.valid (item_in m)) m f refl (sym (ap (sound_at k p) is) ∙ e) in
-      (ap (message_row k p) is ∙ miss.0, miss.1)
-
 -- one turn of the list: a step is a fault, or a part that is read
-module _ (k : Kind) (rows : List ℕ) (n : ℕ) (more : List Step) where
-  pub at_fault :
-      (step : Result Part Fault) (f : Fault) → Statements k.width (parts_in (step_of step ∷ more))
-      → MatchResult step (λ part. part_read k part.place part.bytes.now ≡ Err (number_of f.refusal, f.place)) (λ e. f ≡ e)
-      → behind rows n (listed k (step_of step ∷ more)) ≡ record { rows = rows; count = n; fault = Some (number_of f.refusal, f.place) }
-  at_fault (Err e) f whole is =
-      behind_end rows n (Some (number_of e.refusal, e.place))
-      ∙ ap (λ (e : Fault). record { rows = rows; count = n; fault = Some (number_of e.refusal, e.place) }) (sym is)
-  at_fault (Ok part) f whole is =
-      let missed = row_missed k part.place part.bytes.now whole.0.0 (number_of f.refusal, f.place) whole.0.1 is in
-      ap (λ o. behind rows n (onto o part.place (listed k more))) missed.0
-      ∙ behind_end rows n (Some (number_of refusals.Entry, part.place)) ∙ ap (λ f. record { rows = rows; count = n; fault = Some f }) (sym missed.1)
-
+module _ (k : Kind) (l : Listed) (more : List Step) where
   pub at_row :
       (step : Result Part Fault) (p : ℕ) (m : Message)
       → MatchResult step (λ part. part_read k part.place part.bytes.now ≡ Ok (p, m)) (λ e. ⊥)
-      → behind rows n (listed k (step_of step ∷ more)) ≡ behind (rows ++ row_of k p m) (n + 1) (listed k more)
+      → behind l (listed k (step_of step ∷ more)) ≡ behind (grown (row_of k p m) l) (listed k more)
   at_row (Err e) p m is = absurd is
   at_row (Ok part) p m is =
       let row = row_of k p m in
-      let l = listed k more in
-      ap (λ o. behind rows n (onto o part.place l)) (row_found k part.place part.bytes.now p m is)
-      ∙ (λ i. record { rows = sym (append_assoc rows row l.rows) i; count = sym (add_assoc n 1 l.count) i; fault = l.fault })
+      let r = listed k more in
+      ap (λ o. behind l (onto o part.place r)) (row_found k part.place part.bytes.now p m is)
+      ∙ (λ i. record { rows = sym (append_assoc l.rows row r.rows) i; count = sym (add_assoc l.count 1 r.count) i; fault = r.fault })
 
   pub whole_after : (step : Result Part Fault) → Statements k.width (parts_in (step_of step ∷ more)) → Statements k.width (parts_in more)
   whole_after (Ok part) whole = whole.1

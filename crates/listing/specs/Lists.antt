@@ -41,6 +41,10 @@ pub record Listed : Type 0 where
   pub count : ℕ
   pub fault : Option (ℕ × ℕ)
 
+-- a list with one row more behind the others
+abbrev pub grown : List ℕ → Listed → Listed
+grown row l = record { rows = l.rows ++ row; count = l.count + 1; fault = l.fault }
+
 abbrev pub onto : Option (List ℕ) → ℕ → Listed → Listed
 onto None p more = record { rows = []; count = 0; fault = Some (number_of refusals.Entry, p) }
 onto (Some row) p more = record { rows = row ++ more.rows; count = 1 + more.count; fault = more.fault }

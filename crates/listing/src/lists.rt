@@ -1,6 +1,7 @@
-ghost use Rattle.std.specs.Prelude.{◌≡◌, IfOk};
-ghost use Rattle.listing.specs.Rows.{kind_of};
-ghost use Rattle.listing.specs.Lists.{list_of};
+ghost use Rattle.std.specs.Prelude.{◌≡◌, ◌+◌, ◌^◌, ◌<◌, IfOk, OnOk};
+ghost use Rattle.wire.specs.Statements.{message_of};
+ghost use Rattle.listing.specs.Rows.{kind_of, row_of};
+ghost use Rattle.listing.specs.Lists.{list_of, grown};
 ghost use Rattle.listing.specs.Records.{listed_of};
 
 use crate::listing::Listing;
@@ -13,18 +14,31 @@ use wire::walk;
 pub fn list<K: Entry>(heap: Global, frame: &[u8]) -> Result<Listing, AllocError>
     ensures { IfOk result (λ l. listed_of l ≡ list_of (kind_of K.WIDTH K.valid K.heading K.columns) frame.now) }
 {
-    let mut rows = Vec::new(heap);
-    let mut count = 0;
+    let mut listing = Listing {
+        rows: Vec::new(heap),
+        count: 0,
+        fault: None,
+    };
     for step in walk::<K>(frame) {
         match step.and_then(|part| Row::<K>::read(part)) {
-            Ok(row) => row.push(&mut rows)?,
+            Ok(row) => listing.push(row)?,
             Err(fault) => {
-                let fault = Some(fault);
-                return Ok(Listing { rows, count, fault });
+                listing.fault = Some(fault);
+                break;
             }
         }
-        count += 1;
     }
-    let fault = None;
-    Ok(Listing { rows, count, fault })
+    Ok(listing)
+}
+
+impl Listing {
+    // Puts a row behind the others, and counts it.
+    fn push<K: Entry>(&mut self, row: Row<'_, K>) -> Result<(), AllocError>
+        requires { self.old.count + 1 < 2 ^ 64 }
+        ensures { OnOk result (listed_of self.new ≡ grown (row_of (kind_of K.WIDTH K.valid K.heading K.columns) row.entry.place (message_of row.entry.statement)) (listed_of self.old)) }
+    {
+        row.push(&mut self.rows)?;
+        self.count += 1;
+        Ok(())
+    }
 }

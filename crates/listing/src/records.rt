@@ -10,15 +10,10 @@ use std::alloc::{AllocError, Global};
 use wire::Fault;
 
 // The record of a frame.
+#[tactic(auto, using(crate::proofs::Accounting::accounts))]
 pub fn record<K: Entry>(heap: Global, frame: &[u8]) -> Result<Vec<u8>, AllocError>
     ensures value { IfOk result (λ v. v.items ≡ record_of (kind_of K.WIDTH K.valid K.heading K.columns) frame.now) }
     ensures accounts { Accounts (kind_of K.WIDTH K.valid K.heading K.columns) frame.now }
-{
-    assembled::<K>(heap, frame)
-}
-
-fn assembled<K: Entry>(heap: Global, frame: &[u8]) -> Result<Vec<u8>, AllocError>
-    ensures { IfOk result (λ v. v.items ≡ record_of (kind_of K.WIDTH K.valid K.heading K.columns) frame.now) }
 {
     let listing = list::<K>(heap, frame)?;
     let mut out = Vec::new(heap);

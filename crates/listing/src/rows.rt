@@ -75,7 +75,7 @@ pub fn breadth<K: Entry>() -> usize
     1 + K::names().iter().filter(|b| **b == b';').count()
 }
 
-// The columns of an entry, each behind a semicolon, or as many empty ones.
+// The columns of an entry, each behind a semicolon, or as many empty ones. A column is asked for by its number.
 fn push_columns<K: Entry>(out: &mut Vec<u8>, entry: Option<K>) -> Result<(), AllocError>
     ensures { OnOk result (out.new.items ≡ out.old.items ++ following (map text_of (padded (breadth_of K.heading) (numbers_of K.columns (option_map K.bytes entry))))) }
 {
@@ -85,6 +85,7 @@ fn push_columns<K: Entry>(out: &mut Vec<u8>, entry: Option<K>) -> Result<(), All
     Ok(())
 }
 
+// The number in a column, if there is one. It is widened by `as`: std has no `From<u32>` for `usize`.
 fn column<K: Entry>(entry: &Option<K>, i: usize) -> Option<usize>
     ensures { result ≡ slice_get (numbers_of K.columns (option_map K.bytes entry.now)) i }
 {
@@ -102,6 +103,7 @@ impl<'a, K: Entry> Row<'a, K> {
         let place = part.place;
         let fault = |refusal| Fault { refusal, place };
         let statement = parse::<K>(part.bytes).map_err(fault)?;
+        // a `match`: with `map` and `transpose` the check leaves the error's exit open
         let entry = match statement.item() {
             Some(item) => Some(K::read(item).ok_or(Refusal::Entry).map_err(fault)?),
             None => None,

@@ -18,7 +18,8 @@ pub fn put_line<K: Entry, S: Sink>(sink: &mut S, page: &Page<K>)
     sink.put(b"\n");
 }
 
-// Puts the columns of an entry, each behind a semicolon.
+// Puts the columns of an entry, each behind a semicolon. In a generic function the check's own text for a loop over
+// `map_while` does not type-check, and behind `for_each` nothing is known of the sink.
 fn put_columns<K: Entry, S: Sink>(sink: &mut S, x: &K)
     ensures { S.put_gives sink.old (cells_of (K.columns (K.bytes x.now))) sink.new }
 {

@@ -17,7 +17,7 @@ pub fn filled<K: Entry>(pages: &[Option<Page<K>>]) -> usize
     pages.iter().take_while(|cell| cell.is_some()).count()
 }
 
-// Puts their lines.
+// Puts their lines. In a generic function the check's own text for a loop over `map_while` does not type-check.
 pub fn put_lines<K: Entry, S: Sink>(sink: &mut S, pages: &[Option<Page<K>>])
     ensures { S.put_gives sink.old (lines_of K.columns (leading (map (option_map (paged K.bytes)) pages.now))) sink.new }
 {

@@ -2,7 +2,7 @@ use Rattle.std.proofs.Common.{◌≡◌, fold, vec_items}
 use Rattle.replica.specs.Store.{store}
 use Rattle.day.specs.Days.{day_of}
 use Rattle.day.proofs.Cutting.{found_taken}
-use Rattle.day.proofs.days.run.Given as goal
+use Rattle.day.proofs.days.replay.Given as goal
 
 -- what is left, taken in, comes to what the day comes to
 abbrev pub invariant-loop-found : goal.invariant-loop-found
