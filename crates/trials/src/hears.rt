@@ -234,7 +234,7 @@ fn order_of_lengths<K: Tried>(world: &mut World<K>) -> Result<(), Fail> {
     world.says(0, [b'S', w, 0, 0], K::NONE, Err(10))
 }
 
-// An entry that is K::NONE, with other faults.
+// An entry that is none, with other faults.
 fn order_of_entries<K: Tried>(world: &mut World<K>) -> Result<(), Fail> {
     world.anew()?;
     let (n, w) = (world.n, world.w);
