@@ -1,9 +1,11 @@
 -- Masks, a bit at a time: how many senders are in one, and who is in the masks made of others.
-use Rattle.std.proofs.Common.{◌≡◌, ℕ, zero, suc, ◌+◌, ◌*◌, ◌/◌, ◌%◌, ◌^◌, ◌<◌, ◌≤◌, min, Bool, true, false, cond, if◌then◌else◌, not, ◌&&◌, ◌||◌, eqb, ◌⊎◌, sym, refl, ap, ◌∙◌, ap₂, inl, inr, pow-suc, add-one, arith}
+use Rattle.std.proofs.Common.{◌≡◌, ℕ, zero, suc, ◌+◌, ◌-◌, ◌*◌, ◌/◌, ◌%◌, ◌^◌, ◌<◌, ◌≤◌, min, Bool, true, false, if◌then◌else◌, not, ◌&&◌, ◌||◌, eqb, ◌⊎◌, sym, refl, ap, ◌∙◌, ap₂, inl, inr, pow-suc, add-one, arith, w16}
 use native.Mathlib.Nat.{zero-div}
-use lib.Bits.{bit_and, bit_or, bit_xor}
+use lib.Bits.{bit_and, bit_or}
 use lib.Count.{ones, ones_in, ones_step}
-use Rattle.std.proofs.lemmas.Nat.{and_shr, or_shr, xor_shr, and_mod, or_mod, xor_mod, shr-shr, field_of, mod-pow-add}
+use Rattle.std.proofs.lemmas.Nat.{and_shr, or_shr, and_mod, or_mod, shr-shr, field_of, mod-pow-add}
+use Rattle.std.proofs.lemmas.Nat.Bits.{bit_at_not}
+use Rattle.std.specs.Int.{bit_not}
 use Rattle.std.proofs.Math.Nat.{div-eq_of_lt, mod-eq_of_lt, pow-le-pow_right}
 use Rattle.std.proofs.lemmas.Bool.{eq-eqb, ne_eqb, cases_eq, cases_lt}
 use Rattle.theory.specs.Count.{bit, count}
@@ -83,21 +85,6 @@ has_and = has_op bit_and ◌&&◌ and_shr and_mod refl refl refl refl
 pub has_or : (a b j : ℕ) → has (bit_or a b) j ≡ (has a j || has b j)
 has_or = has_op bit_or ◌||◌ or_shr or_mod refl refl refl refl
 
-abbrev differ : Bool → Bool → Bool
-differ a b = cond a (not b) b
-
-has_xor : (a b j : ℕ) → has (bit_xor a b) j ≡ differ (has a j) (has b j)
-has_xor = has_op bit_xor differ xor_shr xor_mod refl refl refl refl
-
-pub has_except : (a b j : ℕ) → has (bit_xor a (bit_and a b)) j ≡ (has a j && not (has b j))
-has_except a b j = has_xor a (bit_and a b) j ∙ ap (differ (has a j)) (has_and a b j) ∙ at (has a j) (has b j)
-  where
-    at : (x y : Bool) → differ x (x && y) ≡ (x && not y)
-    at true true = refl
-    at true false = refl
-    at false true = refl
-    at false false = refl
-
 -- nobody is in the empty mask
 pub has_none : (j : ℕ) → has 0 j ≡ false
 unfolding has
@@ -115,6 +102,19 @@ count_cut m n h = ap (λ x. ones x) (at (cases_lt n 16)) ∙ low_ones n m
     at : (n < 16) ⊎ (16 ≤ n) → m % 2 ^ min n 16 ≡ m % 2 ^ n
     at (inl l) = let e : min n 16 ≡ n = omega arith in rw e
     at (inr l) = let e : min n 16 ≡ 16 = omega arith in rw e (mod-eq_of_lt h ∙ sym (mod-eq_of_lt (pow_above m n h l)))
+
+-- the senders of a mask that are not in another
+pub has_except : (a b j : ℕ) → a < 2 ^ 16 → b < 2 ^ 16 → has (bit_and a (bit_not w16 b)) j ≡ (has a j && not (has b j))
+unfolding has
+has_except a b j h k = has_and a (bit_not w16 b) j ∙ at (cases_lt j 16)
+  where
+    flip : (x : ℕ) → (x ≡ 0) ⊎ (x ≡ 1) → eqb (1 - x) 1 ≡ not (eqb x 1)
+    flip x (inl e) = rw e
+    flip x (inr e) = rw e
+
+    at : (j < 16) ⊎ (16 ≤ j) → (has a j && has (bit_not w16 b) j) ≡ (has a j && not (has b j))
+    at (inl l) = ap (λ x. has a j && x) (ap (λ x. eqb x 1) (bit_at_not w16 b j k l) ∙ flip (b / 2 ^ j % 2) (parity (b / 2 ^ j)))
+    at (inr l) = ap (λ x. x && has (bit_not w16 b) j) (has_past a j h l) ∙ ap (λ x. x && not (has b j)) (sym (has_past a j h l))
 
 -- who is in what was kept of a mask, of which j is as told
 pub has_kept : (k m j : ℕ) (w z told : Bool) → k ≡ (if w then m else 0) → w ≡ z → has m j ≡ told → has k j ≡ (z && told)

@@ -1,5 +1,5 @@
 -- What is marked after a sender has marked more: its own bit or set, and those of the others. And that nothing is marked at first.
-use Rattle.std.proofs.Common.{◌≡◌, ℕ, zero, suc, get_or, replicate, ◌*◌, ◌%◌, ◌^◌, ◌<◌, Bool, true, false, cond, if◌then◌else◌, not, ◌&&◌, ◌||◌, eqb, Some, None, refl, ap, ◌∙◌, ap₂, arith}
+use Rattle.std.proofs.Common.{◌≡◌, ℕ, ◌*◌, ◌%◌, ◌^◌, ◌<◌, Bool, true, false, cond, if◌then◌else◌, not, ◌&&◌, ◌||◌, eqb, Some, None, refl, ap, ◌∙◌, ap₂, arith}
 use lib.Bits.{bit_or, or_zero_r}
 use Rattle.std.proofs.lemmas.Nat.{one_shl}
 use Rattle.std.proofs.lemmas.Bool.{eq-eqb, ne_eqb}
@@ -97,9 +97,3 @@ bit_none j = ap₂ one_bit (has_none j) (has_none j)
 
 pub set_none : (j : ℕ) → set_for unmarked j ≡ None
 set_none j = ap₂ set_of (has_none j) (has_none j)
-
--- and that in every round
-pub round_none : (n k : ℕ) → get_or (replicate n unmarked) k unmarked ≡ unmarked
-round_none zero k = refl
-round_none (suc n) zero = refl
-round_none (suc n) (suc k) = round_none n k

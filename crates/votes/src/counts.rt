@@ -1,4 +1,5 @@
 // Counts of the first n senders. What lies within a set that may be empty is given that set as an Option.
+// Each count is told n by its caller, which has it in its set of replicas: marks do not know how many there are.
 ghost use Rattle.std.specs.Prelude.{◌≡◌, ℕ, true, false};
 ghost use Rattle.std.specs.Option.{option_map};
 ghost use Rattle.theory.specs.Count.{count};

@@ -24,10 +24,11 @@ impl Mask {
     pub(crate) fn except(self, other: Mask) -> Mask
         ensures { (j : ℕ) → has result.0 j ≡ (has self.0 j && not (has other.0 j)) }
     {
-        Mask(self.0 ^ (self.0 & other.0))
+        Mask(self.0 & !other.0)
     }
 
-    // Its senders if so wished, else nobody.
+    // Its senders if so wished, else nobody. Callers cut two masks by a set, but not the same two: one sender's
+    // mask twice, those of the told bits, and those outside the set. A cut of a whole pair is no plainer.
     pub(crate) fn kept(self, wished: bool) -> Mask
         ensures { result.0 ≡ (if wished then self.0 else 0) }
     {

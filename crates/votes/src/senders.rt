@@ -8,6 +8,7 @@ use crate::marks::Marks;
 use crate::mask::Mask;
 use crate::sets::holds;
 
+// Marks are two masks and Copy, so marking gives back the new pair, as an operation on numbers does.
 impl Marks {
     // Nobody has marked anything.
     pub fn none() -> Marks
@@ -40,11 +41,7 @@ impl Marks {
         if self.zero.contains(sender) {
             return Some(false);
         }
-        if self.one.contains(sender) {
-            Some(true)
-        } else {
-            None
-        }
+        self.one.contains(sender).then_some(true)
     }
 
     // The set of a sender, if it has marked a bit.
