@@ -1,34 +1,28 @@
 -- One slot's row of cells.
-use Rattle.std.proofs.Common.{◌≡◌, ℕ, zero, suc, ◌+◌, ◌*◌, ◌<◌, ◌≤◌, leb, List, ◌∷◌, ◌++◌, map, length, get_or, take, drop, replicate, Some, None, Option, sym, refl, ap, ◌∙◌, arith}
+use Rattle.std.proofs.Common.{◌≡◌, ℕ, zero, suc, ◌+◌, ◌*◌, ◌<◌, leb, List, ◌∷◌, ◌++◌, map, get_or, take, drop, replicate, Some, None, Option, MatchOption, Bool, true, false, if◌then◌else◌, sym, refl, ap, ◌∙◌, arith}
 use mathlib.Core.List.{map-append}
 use Rattle.std.specs.Option.{option_map}
 use Rattle.std.proofs.Math.ListN as ListN
-use Rattle.std.proofs.lemmas.Bool.{le-leb, lt-leb}
-use Rattle.std.proofs.lemmas.List.{get_or-map, take-map, drop-map}
+use Rattle.std.proofs.lemmas.List.{take-map, drop-map}
 use Rattle.std.proofs.lemmas.Nat.{mul-add-lt}
 use Rattle.theory.specs.Search.{bind, guard}
 use Rattle.cells.specs.Rows.{Cells, place_of, part, emptied, standing}
 
--- a cell that was read, seen by its bytes
-pub cell : {K L : Type 0} (f : K → L) (cells : List (Option K)) (i : ℕ) (o : Option K) → i < length cells → o ≡ get_or cells i o → get_or (map (option_map f) cells) i None ≡ option_map f o
-cell f cells i o h e = get_or-map (option_map f) cells i o None h ∙ ap (option_map f) (sym e)
+-- what a cell holds, if enough hold it
+abbrev pub backed : ℕ → Cells → Option (List ℕ) → Option (List ℕ)
+backed k row o = bind o (λ x. guard (leb k (standing row x)) x)
 
--- what sender i holds, if enough hold it
-abbrev pub backer : ℕ → Cells → ℕ → Option (List ℕ)
-backer k row i = bind (get_or row i None) (λ x. guard (leb k (standing row x)) x)
-
-module _ (k : ℕ) (row : Cells) (i : ℕ) where
-  pub backer_none : get_or row i None ≡ None → backer k row i ≡ None
-  unfolding bind
-  backer_none e = rw e
-
-  pub backer_few : (x : List ℕ) → get_or row i None ≡ Some x → standing row x < k → backer k row i ≡ None
-  unfolding bind guard
-  backer_few x e n = rw (e, lt-leb _ _ n)
-
-  pub backer_enough : (x : List ℕ) → get_or row i None ≡ Some x → k ≤ standing row x → backer k row i ≡ Some x
-  unfolding bind guard
-  backer_enough x e n = rw (e, le-leb _ _ n)
+-- what was kept of a cell, if enough hold it
+pub backed_kept : {K : Type 0} (b : K → List ℕ) (k : ℕ) (row : Cells) (o r : Option K)
+    → MatchOption o (r ≡ None) (λ y. (t : Bool) × (t ≡ leb k (standing row (b y))) × (r ≡ (if t then Some y else None)))
+    → option_map b r ≡ backed k row (option_map b o)
+unfolding bind guard
+backed_kept b k row None r e = rw e
+backed_kept b k row (Some y) r (t, told, e) = ap (option_map b) e ∙ at t ∙ ap (λ v. guard v (b y)) told
+  where
+    at : (t : Bool) → option_map b (if t then Some y else None) ≡ guard t (b y)
+    at true = refl
+    at false = refl
 
 pub place_within : (n w q s j : ℕ) → q < n → s < w → j < n → place_of n w q s j < n * w * n
 place_within n w q s j a b c = omega (arith, mul-add-lt (q * w + s) n j (w * n) (mul-add-lt q w s n a b) c)

@@ -1,5 +1,6 @@
 -- Cells seen by the bytes of what they hold, and the row of a queue's slot.
-use Rattle.std.specs.Prelude.{ℕ, ◌+◌, ◌*◌, Bool, true, false, ◌&&◌, List, [], ◌∷◌, ◌++◌, length, take, drop, replicate, Some, None, Option, ◌==◌, nat_le, slice_index_or}
+use Rattle.std.specs.Prelude.{ℕ, ◌+◌, ◌*◌, Bool, false, List, ◌++◌, length, take, drop, replicate, Some, None, Option, nat_le, slice_index_or}
+use Rattle.std.specs.Str.{bytes_eq}
 use Rattle.theory.specs.Count.{count}
 use Rattle.theory.specs.Search.{first, bind, guard}
 
@@ -26,17 +27,10 @@ part from n cells = take n (drop from cells)
 abbrev pub emptied : {A : Type 0} → ℕ → List (Option A) → List (Option A)
 emptied n cells = replicate n None ++ drop n cells
 
--- whether two byte strings are equal
-abbrev pub alike : List ℕ → List ℕ → Bool
-alike [] [] = true
-alike [] (y ∷ ys) = false
-alike (x ∷ xs) [] = false
-alike (x ∷ xs) (y ∷ ys) = x == y && alike xs ys
-
 -- whether a cell holds these bytes
 abbrev pub holds : List ℕ → Option (List ℕ) → Bool
 holds b None = false
-holds b (Some c) = alike c b
+holds b (Some c) = bytes_eq c b
 
 -- how many senders of a row hold these bytes
 unfoldable pub standing : Cells → List ℕ → ℕ

@@ -55,7 +55,8 @@ impl Grid {
         usize::from(queue) * usize::from(self.w) + usize::from(slot)
     }
 
-    // The queue and the slot that have a place among the slots of all queues.
+    // The queue and the slot that have a place among the slots of all queues. The casts make both narrower: that
+    // they fit is shown by the contract, so there is no error to answer.
     pub fn slot_at(self, place: usize) -> (u8, u8)
         requires { place < self.n * self.w }
         ensures value { result ≡ (place / self.w, place % self.w) }

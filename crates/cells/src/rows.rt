@@ -12,7 +12,8 @@ pub fn holds<K: Entry>(cell: &Option<K>, x: &K) -> bool
     cell.is_some_and(|y| y == *x)
 }
 
-// How many senders hold the entry, counted in one pass over the row.
+// How many senders hold the entry, counted in one pass over the row. A counting loop over a row goes by the
+// sender's index, which is a rule of the project.
 pub fn standing<K: Entry>(cells: &[Option<K>], x: &K) -> usize
     ensures { result ≡ standing (map (option_map K.bytes) cells.now) (K.bytes x.now) }
 {
@@ -29,12 +30,7 @@ pub fn standing<K: Entry>(cells: &[Option<K>], x: &K) -> usize
 pub fn lowest<K: Entry>(cells: &[Option<K>], least: usize) -> Option<K>
     ensures { option_map K.bytes result ≡ lowest_in least (map (option_map K.bytes) cells.now) }
 {
-    for (_sender, cell) in cells.iter().enumerate() {
-        if let Some(x) = cell {
-            if least <= standing(cells, x) {
-                return Some(*x);
-            }
-        }
-    }
-    None
+    cells
+        .iter()
+        .find_map(|cell| cell.filter(|x| least <= standing(cells, x)))
 }

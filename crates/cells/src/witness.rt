@@ -55,6 +55,7 @@ impl<'a, T: Copy> Witness<'a, T> {
         requires { at < length self.old }
         ensures { self.new ≡ slice_set self.old at (Some x) }
     {
+        // A borrow of its own: with `self.cells[at]` the check leaves open that the cell's offset fits (tried).
         let cells = &mut *self.cells;
         cells[at] = Some(x);
     }
@@ -67,7 +68,8 @@ impl<'a, T: Copy> Witness<'a, T> {
         empty(self.cells, n);
     }
 
-    // The row of `n` cells that begins at `from`.
+    // The row of `n` cells that begins at `from`. It and the two below ask for the row's end each, since methods
+    // that pass the slice to functions are a rule of the project.
     pub fn row(&self, from: usize, n: usize) -> &[Option<T>]
         requires { from + n ≤ length self.now }
         ensures { result.now ≡ part from n self.now }

@@ -5,7 +5,9 @@ use mathlib.Core.Logic.{Dec-prop}
 use mathlib.Core.HLevel.{hedberg}
 use native.Mathlib.Bridge.{le_prop}
 use native.Mathlib.Decide.{ℕ_discrete}
+use Rattle.std.specs.Str.{bytes_eq}
 use Rattle.std.proofs.lemmas.Bool.{and_parts, eqb-true}
+use Rattle.std.proofs.lemmas.Slice.Eq.{bytes_eq-Decides}
 use Rattle.common.specs.Quorums.{faults, echoes}
 use Rattle.theory.specs.Count.{Honest, count}
 use Rattle.theory.specs.Statement.{sends, echo, CellDiscrete, ready}
@@ -19,8 +21,6 @@ use Rattle.theory.specs.Script.{by_turns}
 use Rattle.theory.proofs.Testing.{fair_test, fair_check, still, quiet_check}
 use Rattle.theory.proofs.Quieting.{promise}
 use Rattle.entry.specs.Readings.{is_reading}
-use Rattle.cells.specs.Rows.{alike}
-use Rattle.cells.proofs.Alike.{alike_decides}
 use Rattle.replica.specs.View.{bytes_same}
 use Rattle.promises.specs.Runs.{Kind}
 use Rattle.promises.specs.Met.{truth, lie, page}
@@ -39,12 +39,12 @@ abbrev among : Discrete (List ℕ) → Plan (List ℕ)
 among same = record { size = 4; faults = faults 4; quorum = echoes 4; width = 2; epochs = 256; rounds = 16; queue = λ e. e % 4; eq = same }
 
 -- equality of byte strings, by a test that computes
-by_test : (xs ys : List ℕ) (b : Bool) → alike xs ys ≡ b → Dec (xs ≡ ys)
-by_test xs ys true e = yes ((alike_decides xs ys).0 e)
-by_test xs ys false e = no (λ p. false≢true (sym e ∙ (alike_decides xs ys).1 p))
+by_test : (xs ys : List ℕ) (b : Bool) → bytes_eq xs ys ≡ b → Dec (xs ≡ ys)
+by_test xs ys true e = yes ((bytes_eq-Decides xs ys).0 e)
+by_test xs ys false e = no (λ p. false≢true (sym e ∙ (bytes_eq-Decides xs ys).1 p))
 
 by_bytes : Discrete (List ℕ)
-by_bytes xs ys = by_test xs ys (alike xs ys) refl
+by_bytes xs ys = by_test xs ys (bytes_eq xs ys) refl
 
 by_bytes_is : by_bytes ≡ bytes_same
 by_bytes_is = λ i x y. Dec-prop (hedberg (bytes_same) x y) (by_bytes x y) (bytes_same x y) i
