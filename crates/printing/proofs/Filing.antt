@@ -1,9 +1,9 @@
 -- What print answers.
-use Rattle.std.proofs.Common.{◌≡◌, ℕ, ◌<◌, Bool, true, false, List, Err, Result, ◌++◌, map, length, take, drop, Ok, Option, sym, refl, ap, ◌∙◌, arith}
+use Rattle.std.proofs.Common.{◌≡◌, ℕ, ◌<◌, true, List, Err, Result, ◌++◌, map, length, take, drop, Ok, Option, sym, refl, ap, ◌∙◌, arith}
 use Rattle.std.specs.Option.{option_map}
-use Rattle.std.proofs.lemmas.List.{take_at, take-map}
+use Rattle.std.proofs.lemmas.List.{take_at}
 use Rattle.std.proofs.lemmas.Bool.{lt-ltb, le-ltb}
-use Rattle.common.specs.Refusals.{number_of, declined, numbered}
+use Rattle.common.specs.Refusals.{declined, numbered}
 use Rattle.common.specs.declared.refusal.Refusal.{Refusal}
 use Rattle.common.specs.declared.refusal.Refusal.TheVariants as refusal
 use Rattle.theory.specs.Book as theory
@@ -13,22 +13,19 @@ use Rattle.replica.specs.declared.lent.Page.{Page}
 use Rattle.replica.specs.Fitting.{fitted_of}
 use Rattle.replica.specs.Store.{fits, store, paged}
 use Rattle.replica.specs.View.{leading, book_of}
+use Rattle.replica.proofs.Accepting.{refused, accepted}
+use Rattle.replica.proofs.Leading.{book_is}
 use Rattle.printing.specs.Texts.{Laid}
 use Rattle.printing.specs.Files.{file_of, placed_of, print_of}
 use Rattle.printing.specs.Grids.{grid_in, grid_of}
 use Rattle.printing.proofs.Rows.{grid}
 
 module _ {K : Type 0} (bytes : K → List ℕ) (heading : List ℕ) (columns : List ℕ → List ℕ) (m : Replica) (t : Tables K) (out : List ℕ) where
-  abbrev fit : Bool
-  fit = fits m.set.n m.set.w (store bytes t)
-
   pub print_unfit : (e : Refusal) (r : Result ℕ Refusal) → r ≡ Err e → declined e ≡ fitted_of bytes m t → (numbered r, out) ≡ print_of heading columns m (store bytes t) out
   unfolding print_of
-  print_unfit e r is h = ap (λ x. (numbered x, out)) is ∙ by fit refl
-    where
-      by : (b : Bool) → fit ≡ b → (declined {A = ℕ} e, out) ≡ print_of heading columns m (store bytes t) out
-      by true d = absurd (let z : ◌≡◌ {A = ℕ} 0 1 = cc (rw d at h) in omega arith)
-      by false d = rw d (let same : number_of e ≡ number_of refusal.Table = cc (rw d at h) in ap (λ k. (Err k, out)) same)
+  print_unfit e r is h =
+      let f = refused bytes m t e h in
+      ap (λ x. (numbered x, out)) is ∙ rw (← f.0) (ap (λ k. (Err k, out)) f.1)
 
   -- a replica and tables that were found to fit, and the cells that it counts
   module _ (n : Replica) (u : Tables K) (long : fits n.set.n n.set.w (store bytes u) ≡ true) (same : Ok (n, u) ≡ fitted_of bytes m t) (cells : List (Option (Page K))) (counted : cells ≡ take n.pages u.pages) where
@@ -38,21 +35,17 @@ module _ {K : Type 0} (bytes : K → List ℕ) (heading : List ℕ) (columns : L
     abbrev file : List ℕ
     file = file_of heading columns n.set.n book
 
-    these : (n ≡ m) × (u ≡ t)
-    these = by fit refl
-      where
-        by : (b : Bool) → fit ≡ b → (n ≡ m) × (u ≡ t)
-        by true d = let both : ◌≡◌ {A = Replica × Tables K} (n, u) (m, t) = cc (rw d at same) in (ap (λ p. p.0) both, ap (λ p. p.1) both)
-        by false d = absurd (let z : ◌≡◌ {A = ℕ} 0 1 = cc (rw d at same) in omega arith)
+    these : ◌≡◌ {A = Replica × Tables K} (n, u) (m, t)
+    these = (accepted bytes m t (n, u) same).0
 
     is : book ≡ book_of n (store bytes u)
-    is = ap (λ l. leading (map (option_map (paged bytes)) l)) counted ∙ ap leading (sym (take-map (option_map (paged bytes)) n.pages u.pages))
+    is = book_is bytes n u cells counted
 
     past : placed_of file out ≡ print_of heading columns m (store bytes t) out
     unfolding print_of
     past =
         ap (λ b. placed_of (file_of heading columns n.set.n b) out) is ∙ rw long refl
-        ∙ (λ i. print_of heading columns (these.0 i) (store bytes (these.1 i)) out)
+        ∙ ap (λ p. print_of heading columns p.0 (store bytes p.1) out) these
 
     pub print_long : length out < length file → (declined refusal.File, out) ≡ print_of heading columns m (store bytes t) out
     print_long l = rw (← past) (rw (lt-ltb (length out) (length file) l) refl)
@@ -71,4 +64,4 @@ module _ {K : Type 0} (bytes : K → List ℕ) (heading : List ℕ) (columns : L
       print_grid =
           ap grid_in ((λ i. take (size i) (text i)) ∙ take_at file (drop (length file) out) (length file) refl)
           ∙ grid heading columns n.set.n book ∙ ap (grid_of heading columns n.set.n) is
-          ∙ (λ i. grid_of heading columns (these.0 i).set.n (book_of (these.0 i) (store bytes (these.1 i))))
+          ∙ ap (λ p. grid_of heading columns p.0.set.n (book_of p.0 (store bytes p.1))) these

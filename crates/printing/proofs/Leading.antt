@@ -12,10 +12,6 @@ module _ {A B : Type 0} (f : A → B) where
   leading_long (None ∷ cells) = refl
   leading_long (Some p ∷ cells) = omega (arith, leading_long cells)
 
-  module _ (cells : List (Option A)) (i : ℕ) where
-    -- the pages from the cell i on
-    at_cell : (cell o : Option A) → i < length cells → cell ≡ get_or cells i cell → cell ≡ o → leading (map (option_map f) (drop i cells)) ≡ leading (option_map f o ∷ map (option_map f) (drop (i + 1) cells))
-    at_cell cell o h e is = ap (λ l. leading (map (option_map f) l)) (drop_more cells i cell h ∙ ap (λ x. x ∷ drop (i + 1) cells) (sym e ∙ is))
-
-    pub at_page : (cell : Option A) (p : A) → i < length cells → cell ≡ get_or cells i cell → cell ≡ Some p → leading (map (option_map f) (drop i cells)) ≡ f p ∷ leading (map (option_map f) (drop (i + 1) cells))
-    at_page cell p h e is = at_cell cell (Some p) h e is
+  -- the pages from the cell i on
+  pub at_page : (cells : List (Option A)) (i : ℕ) (cell : Option A) (p : A) → i < length cells → cell ≡ get_or cells i cell → cell ≡ Some p → leading (map (option_map f) (drop i cells)) ≡ f p ∷ leading (map (option_map f) (drop (i + 1) cells))
+  at_page cells i cell p h e is = ap (λ l. leading (map (option_map f) l)) (drop_more cells i cell h ∙ ap (λ x. x ∷ drop (i + 1) cells) (sym e ∙ is))

@@ -12,7 +12,7 @@ use Rattle.replica.specs.Store.{Store}
 use Rattle.replica.specs.View.{view, box}
 use Rattle.showing.specs.Boards.{order, places, filled, board_of}
 use Rattle.showing.specs.Spoken.{spoken}
-use Rattle.showing.proofs.Standing.{Wide, stands, broad, placed_in, place_fits}
+use Rattle.showing.proofs.Standing.{Wide, stands, broad, cell_at, place_fits}
 use Rattle.showing.proofs.Ordering.{length_places}
 
 pub filled_has : {A : Type 0} (os : List (Option A)) (i : ℕ) (x : A) → Some x ≡ get_or os i None → ContainsAt (filled os) x
@@ -61,8 +61,8 @@ module _ (m : Replica) (t : Store) (s : Stmt (List ℕ)) where
   unfolding places
   board_only h =
       let r = has_filled (map here (order m)) h.0 s h.1 h.2 in
-      let p = placed_in here (order m) r.0 s r.1 in
-      ap here (stands m s m.set.me t p.0 p.1).own ∙ p.1
+      let p = cell_at here (order m) r.0 s r.1 in
+      ap here (stands m s m.set.me t _ p.1).own ∙ p.1
 
   -- each statement of the board can be written
   pub board_fits : (w : ℕ) → Wide w t → ContainsAt (board_of m t) s → unfit w (spoken s) ≡ None

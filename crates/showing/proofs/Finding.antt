@@ -9,13 +9,10 @@ use Rattle.std.specs.Iterator.Runs.{SomeRun, Run, AllItemsGive, IsFirstToGive, C
 use Rattle.std.proofs.lemmas.List.{drop_more, drop_all, get_or-drop}
 use Rattle.showing.specs.Boards.{filled}
 
-if_at : {A : Type 0} (P : A → Type 0) (o : Option A) (n : A) → option_map (λ y. y) o ≡ Some n → IfSome o P → P n
-if_at P None n e h = absurd (let z : ◌≡◌ {A = ℕ} 0 1 = cc in omega arith)
-if_at P (Some x) n e h = let z : x ≡ n = cc in subst P z h
-
-and_at : {A : Type 0} (P : A → Type 0) (o : Option A) (n : A) → option_map (λ y. y) o ≡ Some n → IsSomeAnd o P → P n
-and_at P None n e h = absurd (let z : ◌≡◌ {A = ℕ} 0 1 = cc in omega arith)
-and_at P (Some x) n e h = let z : x ≡ n = cc in subst P z h
+-- what holds of what is read
+at_read : {A : Type 0} (P : Option A → Type 0) (o : Option A) (n : A) → option_map (λ y. y) o ≡ Some n → P o → P (Some n)
+at_read P None n e h = subst P e h
+at_read P (Some x) n e h = subst P e h
 
 module _ {F R : Type 0} (g : Mut F (ℕ × Unit {0}) (Option R)) (f : F) (a b : ℕ) (Says : ℕ → Option R → Type 0) (keeps : CallKeepsClosure g f) (says : (x : ℕ) (r : Option R) → Called g f (x, tt) r f → Says x r) where
   first_mapped :
@@ -27,17 +24,17 @@ module _ {F R : Type 0} (g : Mut F (ℕ × Unit {0}) (Option R)) (f : F) (a b : 
       λ k lo hi.
       let low : k - a < p.len = omega (arith, runs.1 h.0, from, to) in
       let e : p.from.start + (k - a) ≡ k = omega (arith, from) in
-      subst (λ k. Says k None) e (says _ None (if_at (λ x. Called g f (x, tt) None f) (p.at (k - a)) _ (runs.3 (k - a) low) (h.1 keeps (k - a))))
+      subst (λ k. Says k None) e (says _ None (at_read (λ o. IfSome o (λ x. Called g f (x, tt) None f)) (p.at (k - a)) _ (runs.3 (k - a) low) (h.1 keeps (k - a))))
   first_mapped (Some y) p from to (i, low, len, first) =
       let runs = range_runs p p.seen in
       let h = first keeps in (
         p.from.start + i,
         omega (arith, from),
         omega (arith, from, to, runs.0),
-        says _ (Some y) (and_at (λ x. Called g f (x, tt) (Some y) f) (p.at i) _ (runs.3 i low) h.0),
+        says _ (Some y) (at_read (λ o. IsSomeAnd o (λ x. Called g f (x, tt) (Some y) f)) (p.at i) _ (runs.3 i low) h.0),
         λ k lo hi.
             let e : p.from.start + (k - a) ≡ k = omega (arith, from) in
-            subst (λ k. Says k None) e (says _ None (and_at (λ x. Called g f (x, tt) None f) (p.at (k - a)) _ (runs.3 (k - a) (omega (arith, from))) (h.1 (k - a) (omega (arith, from))))),
+            subst (λ k. Says k None) e (says _ None (at_read (λ o. IsSomeAnd o (λ x. Called g f (x, tt) None f)) (p.at (k - a)) _ (runs.3 (k - a) (omega (arith, from))) (h.1 (k - a) (omega (arith, from))))),
       )
 
 filled_skip : {A : Type 0} (os : List (Option A)) (n : ℕ) → ((k : ℕ) → k < n → get_or os k None ≡ None) → filled os ≡ filled (drop n os)
@@ -66,11 +63,15 @@ module _ {A B : Type 0} (v : B → A) (os : List (Option A)) where
   abbrev pub Tells : ℕ → Option (ℕ × B) → Type 0
   Tells x r = MatchOption r (get_or os x None ≡ None) (λ y. (y.0 ≡ x) × (get_or os x None ≡ Some (v y.1)))
 
+  -- from the place p on, the first that stands, with its place
+  abbrev pub First : ℕ → Option (ℕ × B) → Type 0
+  First p r = MatchOption r (filled (drop p os) ≡ []) (λ y. (y.0 < length os) × (filled (drop p os) ≡ v y.1 ∷ filled (drop (y.0 + 1) os)))
+
   pub found :
       {F : Type 0} (g : Mut F (ℕ × Unit {0}) (Option (ℕ × B))) (f : F) (s : Range ℕ) (r : Option (ℕ × B))
       → CallKeepsClosure g f → ((x : ℕ) (r : Option (ℕ × B)) → Called g f (x, tt) r f → Tells x r) → s.end ≡ length os
       → SomeRun nat_range_steps s (λ p. MatchOption r (IsTrue p.whole × AllItemsGive p g f None) (λ y. (i : ℕ) × (i < p.len) × (p.len ≡ i + 1) × IsFirstToGive p g f (Some y) None i))
-      → MatchOption r (filled (drop s.start os) ≡ []) (λ y. (y.0 < length os) × (filled (drop s.start os) ≡ v y.1 ∷ filled (drop (y.0 + 1) os)))
+      → First s.start r
   found g f s r keeps says to (p, from, h) =
       by r (first_mapped g f s.start (length os) Tells keeps says r p (ap (λ k. k.start) from) (ap (λ k. k.end) from ∙ to) h)
     where
@@ -78,6 +79,6 @@ module _ {A B : Type 0} (v : B → A) (os : List (Option A)) where
       a = s.start
 
       by : (r : Option (ℕ × B)) → MatchOption r ((k : ℕ) → a ≤ k → k < length os → Tells k None) (λ y. (i : ℕ) × (a ≤ i) × (i < length os) × Tells i (Some y) × ((k : ℕ) → a ≤ k → k < i → Tells k None))
-          → MatchOption r (filled (drop a os) ≡ []) (λ y. (y.0 < length os) × (filled (drop a os) ≡ v y.1 ∷ filled (drop (y.0 + 1) os)))
+          → First a r
       by None h = none_left os a h
       by (Some y) (i, lo, hi, at, before) = (omega (arith, at.0), first_left os a i (v y.1) lo hi at.1 before ∙ ap (λ n. v y.1 ∷ filled (drop (n + 1) os)) (sym at.0))

@@ -1,5 +1,5 @@
 -- No statement stands on the board twice.
-use Rattle.std.proofs.Common.{◌≡◌, ℕ, zero, suc, ◌+◌, ◌-◌, ◌*◌, ◌/◌, ◌%◌, ◌<◌, ◌≤◌, true, false, eqb, ◌⊎◌, List, [], ◌∷◌, ◌++◌, map, length, get_or, Some, None, Option, sym, refl, ap, ◌∙◌, inl, inr, zero-add, arith, length-append}
+use Rattle.std.proofs.Common.{◌≡◌, ℕ, zero, suc, ◌+◌, ◌-◌, ◌*◌, ◌/◌, ◌%◌, ◌<◌, ◌≤◌, true, false, eqb, ◌⊎◌, List, [], ◌∷◌, ◌++◌, length, get_or, Some, None, Option, sym, refl, ap, ◌∙◌, inl, inr, zero-add, arith, length-append}
 use Rattle.std.proofs.lemmas.Nat.{div-add-mod', mod_below}
 use Rattle.std.proofs.lemmas.List.FromFn.{get_or-map-range_with_len}
 use Rattle.std.proofs.lemmas.List.{get_or_append_left, get_or-append_right, get_or_default}
@@ -12,7 +12,7 @@ use Rattle.replica.specs.Store.{Store}
 use Rattle.replica.specs.View.{view}
 use Rattle.showing.specs.Boards.{run, by_slot, by_round, order, places, filled, board_of}
 use Rattle.showing.proofs.Ordering.{length_run}
-use Rattle.showing.proofs.Standing.{stands}
+use Rattle.showing.proofs.Standing.{stands, cell_at}
 use Rattle.showing.proofs.Filling.{has_filled}
 
 -- the number of a cell in the order
@@ -72,12 +72,6 @@ module _ (m : Replica) where
       (append_ranked _ rows (by_slot w at_have) _ (λ i _. omega (arith, div-add-mod' i w))
       (append_ranked _ epochs at_finish _ (λ i _. omega arith)
       (run_ranked _ (4 * rounds) (by_round m.epoch) (λ i _. omega (arith, vote_rank m.epoch i)))))))
-
--- the cell at the place where something stands
-cell_at : (g : Cell → Option (Stmt (List ℕ))) (cs : List Cell) (i : ℕ) (s : Stmt (List ℕ)) → Some s ≡ get_or (map g cs) i None → (i < length cs) × (g (get_or cs i (cell s)) ≡ Some s)
-cell_at g [] i s e = absurd (let z : ◌≡◌ {A = ℕ} 0 1 = cc in omega arith)
-cell_at g (c ∷ cs) zero s e = (omega arith, sym e)
-cell_at g (c ∷ cs) (suc i) s e = let r = cell_at g cs i s e in (omega (arith, r.0), r.1)
 
 -- what stands at one place only
 abbrev Single : {A : Type 0} → List (Option A) → Type 0

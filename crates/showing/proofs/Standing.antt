@@ -203,21 +203,25 @@ module _ (w : ℕ) (m : Replica) (t : Store) (wide : Wide w t) (r : Stmt (List �
   broad (at_confirm n k) e = vote_broad (confirm n k) (λ y. refl) (ltb j m.set.n && (ltb k rounds && (ltb n epochs && eqb n m.epoch))) (set_for (get_or m.votes.rounds k no_round).confirms j) e
   broad (at_finish n) e = vote_broad (finish n) (λ y. refl) true _ e
 
--- what is read at a place stands in some cell
-pub placed_in : (g : Cell → Option (Stmt (List ℕ))) (cs : List Cell) (i : ℕ) (s : Stmt (List ℕ)) → Some s ≡ get_or (map g cs) i None → (c : Cell) × (g c ≡ Some s)
-placed_in g [] i s e = absurd (let z : ◌≡◌ {A = ℕ} 0 1 = cc in omega arith)
-placed_in g (c ∷ cs) zero s e = (c, sym e)
-placed_in g (c ∷ cs) (suc i) s e = placed_in g cs i s e
+-- the cell at the place where something stands
+pub cell_at : (g : Cell → Option (Stmt (List ℕ))) (cs : List Cell) (i : ℕ) (s : Stmt (List ℕ)) → Some s ≡ get_or (map g cs) i None → (i < length cs) × (g (get_or cs i (cell s)) ≡ Some s)
+cell_at g [] i s e = absurd (let z : ◌≡◌ {A = ℕ} 0 1 = cc in omega arith)
+cell_at g (c ∷ cs) zero s e = (omega arith, sym e)
+cell_at g (c ∷ cs) (suc i) s e = let r = cell_at g cs i s e in (omega (arith, r.0), r.1)
 
 pub place_fits : (w : ℕ) (m : Replica) (t : Store) (i : ℕ) (s : Stmt (List ℕ)) → Wide w t → Some s ≡ get_or (places m t) i None → unfit w (spoken s) ≡ None
 unfolding places
-place_fits w m t i s wide e = let p = placed_in (view m t m.set.me) (order m) i s e in (stands m s m.set.me t p.0 p.1).fits w (broad w m t wide s m.set.me p.0 p.1)
+place_fits w m t i s wide e = let p = cell_at (view m t m.set.me) (order m) i s e in (stands m s m.set.me t _ p.1).fits w (broad w m t wide s m.set.me _ p.1)
 
 -- a store of entries of one kind
-pub store_wide : {K : Type 0} (bytes : K → List ℕ) (w : ℕ) (tables : Tables K) → ((k : K) → length (bytes k) ≡ w) → Wide w (store bytes tables)
-store_wide bytes w t wide = record {
-  sends = entries_wide bytes w wide t.sends;
-  echoes = entries_wide bytes w wide t.echoes;
-  readies = entries_wide bytes w wide t.readies;
-  haves = entries_wide bytes w wide t.haves;
-}
+pub store_wide :
+    {K : Type 0} (bytes : K → List ℕ) (valid : List ℕ → Bool) (w : ℕ) (tables : Tables K)
+    → ((s : List ℕ) → valid s ≡ true → length s ≡ w) → ((k : K) → valid (bytes k) ≡ true) → Wide w (store bytes tables)
+store_wide {K} bytes valid w t wide sound =
+    let each = λ (k : K). wide (bytes k) (sound k) in
+    record {
+      sends = entries_wide bytes w each t.sends;
+      echoes = entries_wide bytes w each t.echoes;
+      readies = entries_wide bytes w each t.readies;
+      haves = entries_wide bytes w each t.haves;
+    }

@@ -1,7 +1,7 @@
 // What the replica holds from itself of votes.
 ghost use Rattle.std.specs.Prelude.{◌≡◌, ◌<◌};
 ghost use Rattle.std.specs.Option.{option_map};
-ghost use Rattle.theory.specs.Statement.{finish, at_finish};
+ghost use Rattle.theory.specs.Statement.{at_finish};
 ghost use Rattle.theory.specs.Machine.{own};
 ghost use Rattle.replica.specs.Claims.{claim_of};
 ghost use Rattle.replica.specs.Store.{Store};
@@ -13,24 +13,17 @@ use entry::Entry;
 use replica::{Claim, Replica};
 use std::cmp::Ordering;
 
-// The finish of an epoch.
+// The finish of an epoch: of the current one from the votes, of one that was left from what was kept.
 pub fn finish_at<K: Entry>(replica: &Replica, epoch: u16) -> Option<Claim<K>>
     requires { epoch < 256 }
     ensures { (t : Store) → option_map (claim_of K.bytes) result ≡ own (box replica.now t) (at_finish epoch) }
 {
-    finish_bit(replica, epoch).map(|bit| Claim::Finish { epoch, bit })
-}
-
-// Its bit: of the current epoch from the votes, of one that was left from what was kept.
-fn finish_bit(replica: &Replica, epoch: u16) -> Option<bool>
-    requires { epoch < 256 }
-    ensures { (t : Store) → option_map (finish epoch) result ≡ own (box replica.now t) (at_finish epoch) }
-{
-    match epoch.cmp(&replica.epoch) {
+    let bit = match epoch.cmp(&replica.epoch) {
         Ordering::Less => replica.past[usize::from(epoch)],
         Ordering::Equal => replica.votes.finish.bit(replica.set.me),
         Ordering::Greater => None,
-    }
+    };
+    bit.map(|bit| Claim::Finish { epoch, bit })
 }
 
 // The vote `j` of the current epoch: in each round the values, seen and confirm.
@@ -46,6 +39,7 @@ pub fn vote_at<K: Entry>(replica: &Replica, j: usize) -> Option<Claim<K>>
     let me = replica.set.me;
     let k = j / 4;
     let votes = &replica.votes.rounds[k];
+    // The round is below 16.
     let round = k as u8;
     // The order of a round's four votes: a table of four closures would be no plainer.
     match j % 4 {

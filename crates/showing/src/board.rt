@@ -1,5 +1,5 @@
 // The places of the board.
-ghost use Rattle.std.specs.Prelude.{◌≡◌, ◌<◌, length, None, slice_index_or};
+ghost use Rattle.std.specs.Prelude.{◌≡◌, ◌*◌, ◌<◌, length, None, slice_index_or};
 ghost use Rattle.std.specs.Iterator.{YieldsFirstBy, item_count};
 ghost use Rattle.std.specs.Option.{option_map};
 ghost use Rattle.replica.specs.Claims.{claim_of};
@@ -10,7 +10,7 @@ use crate::ballots::{finish_at, vote_at};
 use crate::slots::{entry_at, send_at};
 use common::{EPOCHS, ROUNDS};
 use entry::Entry;
-use replica::{Claim, Fitted, Replica};
+use replica::{Claim, Fitted, Replica, Set};
 use std::marker::Model;
 
 // The board from a place on, seen as the list of what stands there.
@@ -53,7 +53,14 @@ fn places(replica: &Replica) -> usize
 {
     let set = &replica.set;
     let (epochs, rounds) = (usize::from(EPOCHS), usize::from(ROUNDS));
-    usize::from(set.w) + 3 * set.grid().slots() + epochs + 4 * rounds
+    usize::from(set.w) + 3 * slots(set) + epochs + 4 * rounds
+}
+
+// How many slots there are in all queues.
+fn slots(set: &Set) -> usize
+    ensures { result ≡ set.now.n * set.now.w }
+{
+    set.grid().slots()
 }
 
 // What stands at the place `i`.
@@ -64,16 +71,18 @@ fn claim_at<K: Entry>(lent: &Fitted<'_, '_, K>, i: usize) -> Option<Claim<K>>
     let set = &lent.replica.set;
     let w = usize::from(set.w);
     if i < w {
+        // The slot is below w, which is a byte.
         return send_at(lent, i as u8);
     }
     let i = i - w;
-    let entries = 3 * set.grid().slots();
+    let entries = 3 * slots(set);
     if i < entries {
         return entry_at(lent, i);
     }
     let i = i - entries;
     let epochs = usize::from(EPOCHS);
     if i < epochs {
+        // The epoch is below 256.
         return finish_at(lent.replica, i as u16);
     }
     vote_at(lent.replica, i - epochs)

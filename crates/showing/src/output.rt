@@ -16,7 +16,8 @@ use common::Refusal;
 use entry::Entry;
 use replica::{Replica, Tables};
 
-// The board behind its first `number` statements, if there are so many.
+// The board behind its first `number` statements, if there are so many. `nth` takes one fewer and answers a statement:
+// it would be no plainer.
 fn skip<'a, 't, K: Entry>(mut board: Board<'a, 't, K>, number: usize) -> Option<Board<'a, 't, K>>
     ensures { MatchOption result (length board.entry < number) (λ rest. (number ≤ length board.entry) × (rest ≡ drop number board.entry)) }
 {
@@ -32,24 +33,25 @@ fn lay<K: Entry>(board: Board<'_, '_, K>, number: usize, out: &mut [u8]) -> Resu
     requires fit { AllByRecursion (λ s. unfit K.WIDTH (spoken s) ≡ None) board }
     ensures { (answered pair_of result, out.new) ≡ lay_of number (map spelled board.entry) out.old }
 {
-    // Both are the answer: how far was written, and the number behind it.
-    let mut at = 0;
-    let mut next = number;
+    let mut shown = Shown {
+        bytes: 0,
+        next: number,
+    };
     for claim in board {
-        match write(&claim, &mut out[at..]) {
+        match write(&claim, &mut out[shown.bytes..]) {
             Ok(bytes) => {
-                at += bytes;
-                next += 1;
+                shown.bytes += bytes;
+                shown.next += 1;
             }
             Err(refusal) => {
-                if next == number {
+                if shown.next == number {
                     return Err(refusal);
                 }
-                return Ok(Shown { bytes: at, next });
+                break;
             }
         }
     }
-    Ok(Shown { bytes: at, next })
+    Ok(shown)
 }
 
 // Writes the statements of the board from `number` on, whole and one behind the other, while they fit.

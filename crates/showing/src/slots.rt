@@ -34,6 +34,7 @@ pub fn entry_at<K: Entry>(lent: &Fitted<'_, '_, K>, i: usize) -> Option<Claim<K>
     let rows = grid.slots();
     let (queue, slot) = grid.slot_at(i % rows);
     let place = grid.place(queue, slot, set.me);
+    // Each arm names a table and its case: a match for the table and a second for the claim would be no plainer.
     match i / rows {
         0 => tables
             .echoes

@@ -1,4 +1,4 @@
-use Rattle.std.proofs.Common.{◌≡◌, ◌-◌, ◌*◌, sym, ap, ◌∙◌, arith}
+use Rattle.std.proofs.Common.{◌-◌, ◌*◌, sym, ◌∙◌, arith}
 use Rattle.replica.specs.Store.{store}
 use Rattle.showing.proofs.Ordering.{length_places, send_place, entry_place, finish_place, vote_place}
 use Rattle.showing.proofs.board.claim_at.Goals as goal
@@ -13,25 +13,21 @@ pub returns-then-i-entries : goal.returns-then-i-entries
 returns-then-i-entries g c =
     let m = c.args.lent.now.replica.now in
     let t = store g.K.Entry.bytes c.args.lent.now.tables.now in
-    let rows : c.slots-entries.result ≡ m.set.n * m.set.w = c.slots-entries.ensures ∙ ap (λ g. g.n * g.w) c.grid.ensures in
-    c.entry_at.ensures ∙ sym (entry_place m t c.args.i _ (omega arith) (omega (arith, rows)))
+    c.entry_at.ensures ∙ sym (entry_place m t c.args.i _ (omega arith) (omega (arith, c.slots-entries.ensures)))
 
 pub returns-then-i-epochs : goal.returns-then-i-epochs
 returns-then-i-epochs g c =
     let m = c.args.lent.now.replica.now in
     let t = store g.K.Entry.bytes c.args.lent.now.tables.now in
-    let rows : c.slots-entries.result ≡ m.set.n * m.set.w = c.slots-entries.ensures ∙ ap (λ g. g.n * g.w) c.grid.ensures in
-    c.finish_at.ensures t ∙ sym (finish_place m t c.args.i _ (omega (arith, rows)) (omega arith))
+    c.finish_at.ensures t ∙ sym (finish_place m t c.args.i _ (omega (arith, c.slots-entries.ensures)) (omega arith))
 
 pub vote_at-requires : goal.vote_at-requires
 vote_at-requires g c =
     let m = c.args.lent.now.replica.now in
-    let rows : c.slots-entries.result ≡ m.set.n * m.set.w = c.slots-entries.ensures ∙ ap (λ g. g.n * g.w) c.grid.ensures in
-    omega (arith, c.requires, rows, length_places m (store g.K.Entry.bytes c.args.lent.now.tables.now))
+    omega (arith, c.requires, c.slots-entries.ensures, length_places m (store g.K.Entry.bytes c.args.lent.now.tables.now))
 
 pub returns : goal.returns
 returns g c =
     let m = c.args.lent.now.replica.now in
     let t = store g.K.Entry.bytes c.args.lent.now.tables.now in
-    let rows : c.slots-entries.result ≡ m.set.n * m.set.w = c.slots-entries.ensures ∙ ap (λ g. g.n * g.w) c.grid.ensures in
-    c.vote_at.ensures t ∙ sym (vote_place m t c.args.i (c.args.i - c.from-w.result - 3 * c.slots-entries.result - c.from-epochs.result) (omega (arith, rows)) (omega (arith, c.requires, rows, length_places m t)))
+    c.vote_at.ensures t ∙ sym (vote_place m t c.args.i (c.args.i - c.from-w.result - 3 * c.slots-entries.result - c.from-epochs.result) (omega (arith, c.slots-entries.ensures)) (omega (arith, c.requires, c.slots-entries.ensures, length_places m t)))

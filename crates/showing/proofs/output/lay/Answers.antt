@@ -24,8 +24,8 @@ loop-claim-init g c =
     (sym c.into_iter-claim-iterator.ensures.into_iter_gives)
     (c.requires.fit, laid_start out (map spelled c.args.board) c.args.number)
 
-pub overflow_add-next : goal.overflow_add-next
-overflow_add-next g c =
+pub overflow_add-shown-in-Ok : goal.overflow_add-shown-in-Ok
+overflow_add-shown-in-Ok g c =
     let l = (onward _ _ _ _ _ _ _ _ _ (claim_of g.K.Entry.bytes c.in-Some.claim) c.in-Some.ensures.steps c.loop-claim.invariant).1 in
     omega (arith, laid_count _ _ _ _ _ _ _ l, length-map c.args.board spelled, c.requires.few)
 
@@ -34,15 +34,15 @@ loop-claim-preserved g c =
     let l = onward _ _ _ _ _ _ _ _ _ (claim_of g.K.Entry.bytes c.in-Some.claim) c.in-Some.ensures.steps c.loop-claim.invariant in
     (l.0.1, laid_more _ _ _ _ _ _ _ _ c.write.new.out l.1 c.in-Ok.bytes c.in-Ok.ensures)
 
-pub returns-then-next-number : goal.returns-then-next-number
-returns-then-next-number g c =
+pub returns-then-shown-number : goal.returns-then-shown-number
+returns-then-shown-number g c =
     let l = (onward _ _ _ _ _ _ _ _ _ (claim_of g.K.Entry.bytes c.in-Some.claim) c.in-Some.ensures.steps c.loop-claim.invariant).1 in
-    laid_first _ _ _ _ _ _ _ _ c.write.new.out l _ c.in-Err.ensures c.if-next-number.true
+    laid_first _ _ _ _ _ _ _ _ c.write.new.out l _ c.in-Err.ensures c.if-shown-number.true
 
-pub returns-in-Err : goal.returns-in-Err
-returns-in-Err g c =
+pub returns-else-shown-number : goal.returns-else-shown-number
+returns-else-shown-number g c =
     let l = (onward _ _ _ _ _ _ _ _ _ (claim_of g.K.Entry.bytes c.in-Some.claim) c.in-Some.ensures.steps c.loop-claim.invariant).1 in
-    laid_stop _ _ _ _ _ _ _ _ c.write.new.out l _ c.in-Err.ensures c.if-next-number.false
+    laid_stop _ _ _ _ _ _ _ _ c.write.new.out l _ c.in-Err.ensures c.if-shown-number.false
 
-pub returns : goal.returns
-returns g c = laid_end _ _ _ _ _ _ _ c.loop-claim.invariant.1 (ap (map spelled) c.in-None.ensures.steps.0)
+pub returns-in-None : goal.returns-in-None
+returns-in-None g c = laid_end _ _ _ _ _ _ _ c.loop-claim.invariant.1 (ap (map spelled) c.in-None.ensures.steps.0)

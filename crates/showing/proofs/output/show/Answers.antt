@@ -52,7 +52,7 @@ lay-requires-clause-fit g c =
     let law = g.met.K.Entry in
     let m = c.in_ok-lent.lent.replica.now in
     let tables = c.in_ok-lent.lent.tables.now in
-    let all = board_writable m (store b tables) w (store_wide b w tables (λ k. law.wide (b k) (law.sound k))) in
+    let all = board_writable m (store b tables) w (store_wide b _ w tables law.wide law.sound) in
     subst (AllByRecursion (λ s. unfit w (spoken s) ≡ None)) (sym (MatchOption-at_some _ _ _ c.in_ok-rest.ensures.ok_part c.skip.ensures).1) (All-drop _ c.args.number (board_of m (store b tables)) all)
 
 pub returns-clause-value : goal.returns-clause-value
@@ -68,11 +68,12 @@ returns-clause-value g c =
     (accepted b c.args.replica.now c.args.tables.now _ c.in_ok-lent.ensures).0
     (show_from lent.replica.now n out (store b lent.tables.now) lent.long ss kept.0 kept.1)
 
+-- the law, three times: a lemma that the function names does not find what the entry's kind promises
 pub returns-in_err-lent-clause-law : goal.returns-in_err-lent-clause-law
-returns-in_err-lent-clause-law g c = shows _ _ _ (store_wide g.K.Entry.bytes _ c.args.tables.now (λ k. g.met.K.Entry.wide _ (g.met.K.Entry.sound k)))
+returns-in_err-lent-clause-law g c = shows _ _ _ (store_wide g.K.Entry.bytes _ _ c.args.tables.now g.met.K.Entry.wide g.met.K.Entry.sound)
 
 pub returns-in_err-rest-clause-law : goal.returns-in_err-rest-clause-law
-returns-in_err-rest-clause-law g c = shows _ _ _ (store_wide g.K.Entry.bytes _ c.args.tables.now (λ k. g.met.K.Entry.wide _ (g.met.K.Entry.sound k)))
+returns-in_err-rest-clause-law g c = shows _ _ _ (store_wide g.K.Entry.bytes _ _ c.args.tables.now g.met.K.Entry.wide g.met.K.Entry.sound)
 
 pub returns-clause-law : goal.returns-clause-law
-returns-clause-law g c = shows _ _ _ (store_wide g.K.Entry.bytes _ c.args.tables.now (λ k. g.met.K.Entry.wide _ (g.met.K.Entry.sound k)))
+returns-clause-law g c = shows _ _ _ (store_wide g.K.Entry.bytes _ _ c.args.tables.now g.met.K.Entry.wide g.met.K.Entry.sound)

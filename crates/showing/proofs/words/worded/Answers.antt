@@ -3,6 +3,7 @@ use Rattle.wire.specs.Statements as message
 use Rattle.showing.proofs.Wording.{item_stated}
 use Rattle.showing.proofs.words.worded.Goals as goal
 
+-- one lemma for the four; each answer names its own statement
 pub returns-in-Send : goal.returns-in-Send
 returns-in-Send g c =
     let b = g.K.Entry.bytes in
