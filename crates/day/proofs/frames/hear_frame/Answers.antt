@@ -31,12 +31,12 @@ loop-step-preserved g c =
     let same = λ (s : Step). step_heard k.WIDTH k.valid x.sender x.start r s in
     let heard : said m.place.0 m.place.1 m.replica (store k.bytes m.tables) ≡ same (step_of c.in-Some.step) =
     (elim m.branch [
-        in-Ok w ↦
-            (λ i. said (w.place-is i).0 (w.place-is i).1 (w.replica-is i) (store k.bytes (w.tables-is i)))
-            ∙ ap (called r.0 (x.start + w.in-Ok.part.place)) w.hear.ensures.value ∙ sym (ap (λ s. same (step_of s)) w.in-Ok.is)
-        | in-Err w ↦
-            (λ i. said (w.place-is i).0 (w.place-is i).1 (w.replica-is i) (store k.bytes (w.tables-is i)))
-            ∙ sym (ap (λ s. same (step_of s)) w.in-Err.is)
+      | in-Ok w ↦
+          (λ i. said (w.place-is i).0 (w.place-is i).1 (w.replica-is i) (store k.bytes (w.tables-is i)))
+          ∙ ap (called r.0 (x.start + w.in-Ok.part.place)) w.hear.ensures.value ∙ sym (ap (λ s. same (step_of s)) w.in-Ok.is)
+      | in-Err w ↦
+          (λ i. said (w.place-is i).0 (w.place-is i).1 (w.replica-is i) (store k.bytes (w.tables-is i)))
+          ∙ sym (ap (λ s. same (step_of s)) w.in-Err.is)
     ]) in
     step_on k.WIDTH k.valid x.sender x.start (length x.bytes.now) _ _ (left k.WIDTH c.next.new.self) r _ _ c.in-Some.ensures.steps
     (ap (λ text. (text, m.replica, store k.bytes m.tables)) c.in_ok-push_answer.ensures ∙ heard)
