@@ -6,7 +6,8 @@ use common::Refusal;
 use std::alloc::AllocError;
 use std::io::Write;
 
-// The line of an answer to what stands at a place: none if it is accepted.
+// The line of an answer to what stands at a place: none if it is accepted. Only memory can be wanting where a line
+// is written into a `Vec`.
 pub fn push_answer(
     text: &mut Vec<u8>,
     place: usize,
