@@ -3,7 +3,7 @@ ghost use Rattle.replica.specs.Store.{store};
 ghost use Rattle.day.specs.Days.{taken_of, day_of, Heard};
 
 use crate::frames::hear_frame;
-use crate::lines::{push_refused, push_torn};
+use crate::lines::{push_answer, push_torn};
 use crate::record::Record;
 use crate::records::Records;
 use entry::Entry;
@@ -11,7 +11,8 @@ use intake::submit;
 use replica::{Replica, Tables};
 use std::alloc::{AllocError, Global};
 
-// Takes in one record: an entry of the replica's own, or a frame from another box.
+// Takes in one record: an entry of the replica's own, or a frame from another box. What it changes is passed one
+// by one: in a struct that lends all of it, what each is at the end was not known. That was tried.
 fn take_in<K: Entry>(
     replica: &mut Replica,
     tables: &mut Tables<'_, K>,
@@ -23,10 +24,8 @@ fn take_in<K: Entry>(
     if sent.sender != replica.set.me {
         return hear_frame(replica, tables, text, sent);
     }
-    if let Err(refusal) = submit(replica, tables, sent.bytes) {
-        push_refused(text, sent.start, refusal)?;
-    }
-    Ok(())
+    let answer = submit(replica, tables, sent.bytes);
+    push_answer(text, sent.start, answer)
 }
 
 // Replays a day into a replica; answers a line for each entry and statement that is declined.

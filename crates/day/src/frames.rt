@@ -2,7 +2,7 @@ ghost use Rattle.std.specs.Prelude.{◌≡◌, OnOk};
 ghost use Rattle.replica.specs.Store.{store};
 ghost use Rattle.day.specs.Days.{frame_of};
 
-use crate::lines::push_refused;
+use crate::lines::push_answer;
 use crate::record::Record;
 use entry::Entry;
 use intake::hear;
@@ -20,14 +20,11 @@ pub fn hear_frame<K: Entry>(
     ensures { OnOk result ((text.new.items, replica.new, store K.bytes tables.new) ≡ frame_of K.WIDTH K.valid sent.entry.sender sent.entry.start sent.entry.bytes.now (text.old.items, replica.old, store K.bytes tables.old)) }
 {
     for step in walk::<K>(sent.bytes) {
-        match step {
-            Ok(part) => {
-                if let Err(refusal) = hear(replica, tables, sent.sender, part.bytes) {
-                    push_refused(text, sent.start + part.place, refusal)?;
-                }
-            }
-            Err(fault) => push_refused(text, sent.start + fault.place, fault.refusal)?,
-        }
+        let (place, answer) = match step {
+            Ok(part) => (part.place, hear(replica, tables, sent.sender, part.bytes)),
+            Err(fault) => (fault.place, Err(fault.refusal)),
+        };
+        push_answer(text, sent.start + place, answer)?;
     }
     Ok(())
 }

@@ -1,22 +1,29 @@
 ghost use Rattle.std.specs.Prelude.{◌≡◌, ◌++◌, OnOk};
-ghost use Rattle.common.specs.Refusals.{number_of};
-ghost use Rattle.day.specs.Days.{refused_line, torn_line};
+ghost use Rattle.common.specs.Refusals.{numbered};
+ghost use Rattle.day.specs.Days.{torn_line, line_of};
 
 use common::Refusal;
 use std::alloc::AllocError;
+use std::io::Write;
 
-// The line of what is declined at a place.
-pub fn push_refused(text: &mut Vec<u8>, place: usize, refusal: Refusal) -> Result<(), AllocError>
-    ensures { OnOk result (text.new.items ≡ text.old.items ++ refused_line (number_of refusal) place) }
+// The line of an answer to what stands at a place: none if it is accepted. Only memory can be wanting where a line
+// is written into a `Vec`.
+pub fn push_answer(
+    text: &mut Vec<u8>,
+    place: usize,
+    answer: Result<(), Refusal>,
+) -> Result<(), AllocError>
+    ensures { OnOk result (text.new.items ≡ text.old.items ++ line_of place (numbered answer)) }
 {
-    let line = format!(in *text.allocator(); "refused;{refusal};{place}\n")?;
-    text.extend_from_slice(line.as_bytes())
+    match answer {
+        Ok(()) => Ok(()),
+        Err(refusal) => writeln!(text, "refused;{refusal};{place}").map_err(|_| AllocError),
+    }
 }
 
 // The line of a record that the day ends inside of.
 pub fn push_torn(text: &mut Vec<u8>, place: usize) -> Result<(), AllocError>
     ensures { OnOk result (text.new.items ≡ text.old.items ++ torn_line place) }
 {
-    let line = format!(in *text.allocator(); "torn;{place}\n")?;
-    text.extend_from_slice(line.as_bytes())
+    writeln!(text, "torn;{place}").map_err(|_| AllocError)
 }

@@ -29,6 +29,7 @@ const ROWS: usize = 4096;
 // More bytes than the board and the file of the largest set have.
 const ROOM: usize = 65536;
 
+// The kind by its name. It is not `listing`'s, which goes by the trait alone and knows no kind by name.
 #[derive(Clone, Copy)]
 enum Kind {
     Reading,

@@ -10,6 +10,7 @@ use std::process::ExitCode;
 
 const USAGE: &str = "usage: frameview reading|order < frame";
 
+// The two names are matched here: an enum with `FromStr`, as `dayview` has among its four arguments, would be matched again.
 fn main(rt: HostRuntime) -> anyhow::Result<ExitCode> {
     let mut args = env::args(&rt)?.skip(1);
     match (args.next().as_deref(), args.next()) {

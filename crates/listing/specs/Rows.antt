@@ -1,6 +1,7 @@
 -- A statement as a row of a table.
 use Rattle.std.specs.Prelude.{ℕ, zero, suc, Bool, List, [], ◌∷◌, ◌++◌, map, Some, None, codes, decimal, Option}
 use Rattle.std.specs.List.{slice_get}
+use Rattle.std.specs.Option.{option_map_or}
 use Rattle.entry.specs.Columns.{breadth_of}
 use Rattle.wire.specs.Letters.{byte_of}
 use Rattle.wire.specs.Statements.{Message, send, echo, ready, have, value, seen, confirm, finish, letter_in, item_in}
@@ -50,8 +51,7 @@ padded (suc n) ns = padded n ns ++ (slice_get ns n ∷ [])
 
 -- a number, or nothing
 abbrev pub text_of : Option ℕ → List ℕ
-text_of None = []
-text_of (Some n) = decimal n
+text_of cell = option_map_or decimal cell []
 
 -- cells, each behind a semicolon
 abbrev pub following : List (List ℕ) → List ℕ

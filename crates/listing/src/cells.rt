@@ -1,14 +1,15 @@
-ghost use Rattle.std.specs.Prelude.{◌≡◌, ◌∷◌, ◌++◌, map, decimal, OnOk};
+ghost use Rattle.std.specs.Prelude.{◌≡◌, ◌∷◌, ◌++◌, [], map, OnOk};
+ghost use Rattle.std.specs.Option.{option_map_or};
 ghost use Rattle.listing.specs.Rows.{text_of, following};
 
+use itoa::{Buffer, Integer};
 use std::alloc::AllocError;
 
 // A number in decimal.
-pub fn push_number(out: &mut Vec<u8>, n: usize) -> Result<(), AllocError>
-    ensures { OnOk result (out.new.items ≡ out.old.items ++ decimal n) }
+pub fn push_number<I: Integer>(out: &mut Vec<u8>, n: I) -> Result<(), AllocError>
+    ensures { OnOk result (out.new.items ≡ out.old.items ++ I.text n) }
 {
-    let text = format!(in *out.allocator(); "{n}")?;
-    out.extend_from_slice(text.as_bytes())
+    out.extend_from_slice(Buffer::new().format(n).as_bytes())
 }
 
 // A word behind a semicolon.
@@ -20,8 +21,8 @@ pub fn push_word(out: &mut Vec<u8>, word: &[u8]) -> Result<(), AllocError>
 }
 
 // One cell behind a semicolon: a number, or nothing.
-pub fn push_cell(out: &mut Vec<u8>, cell: Option<usize>) -> Result<(), AllocError>
-    ensures { OnOk result (out.new.items ≡ out.old.items ++ (59 ∷ text_of cell)) }
+pub fn push_cell<I: Integer>(out: &mut Vec<u8>, cell: Option<I>) -> Result<(), AllocError>
+    ensures { OnOk result (out.new.items ≡ out.old.items ++ (59 ∷ option_map_or I.text cell [])) }
 {
     out.push(b';')?;
     match cell {
@@ -31,7 +32,7 @@ pub fn push_cell(out: &mut Vec<u8>, cell: Option<usize>) -> Result<(), AllocErro
 }
 
 // Cells, each behind a semicolon.
-pub fn push_cells(out: &mut Vec<u8>, cells: &[Option<usize>]) -> Result<(), AllocError>
+pub fn push_cells(out: &mut Vec<u8>, cells: &[Option<u16>]) -> Result<(), AllocError>
     ensures { OnOk result (out.new.items ≡ out.old.items ++ following (map text_of cells.now)) }
 {
     for cell in cells {

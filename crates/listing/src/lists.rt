@@ -10,7 +10,8 @@ use entry::Entry;
 use std::alloc::{AllocError, Global};
 use wire::walk;
 
-// Lists the statements of a frame.
+// Lists the statements of a frame. The clauses name the four members of the kind one by one: a definition has
+// no type of entry to take them from.
 pub fn list<K: Entry>(heap: Global, frame: &[u8]) -> Result<Listing, AllocError>
     ensures { IfOk result (λ l. listed_of l ≡ list_of (kind_of K.WIDTH K.valid K.heading K.columns) frame.now) }
 {
@@ -20,7 +21,8 @@ pub fn list<K: Entry>(heap: Global, frame: &[u8]) -> Result<Listing, AllocError>
         fault: None,
     };
     for step in walk::<K>(frame) {
-        match step.and_then(|part| Row::<K>::read(part)) {
+        // a closure: passed by its name, `try_from` is not covered by the borrow checker
+        match step.and_then(|part| Row::<K>::try_from(part)) {
             Ok(row) => listing.push(row)?,
             Err(fault) => {
                 listing.fault = Some(fault);

@@ -1,11 +1,12 @@
-ghost use Rattle.std.specs.Prelude.{◌≡◌, ◌++◌, IfOk, OnOk};
-ghost use Rattle.listing.specs.Rows.{kind_of};
+ghost use Rattle.std.specs.Prelude.{◌≡◌, ◌++◌, ◌∷◌, [], IfOk, OnOk};
+ghost use Rattle.listing.specs.Rows.{kind_of, following};
 ghost use Rattle.listing.specs.Lists.{Accounts};
-ghost use Rattle.listing.specs.Records.{note_of, heading_of, fault_in, fault_of, record_of};
+ghost use Rattle.listing.specs.Records.{heading_of, fault_in, fault_of, record_of};
 
 use crate::cells::push_cell;
 use crate::lists::list;
 use entry::Entry;
+use itoa::Integer;
 use std::alloc::{AllocError, Global};
 use wire::Fault;
 
@@ -25,8 +26,13 @@ pub fn record<K: Entry>(heap: Global, frame: &[u8]) -> Result<Vec<u8>, AllocErro
 }
 
 // A row of a word and two numbers.
-fn push_note(out: &mut Vec<u8>, word: &[u8], a: usize, b: usize) -> Result<(), AllocError>
-    ensures { OnOk result (out.new.items ≡ out.old.items ++ note_of word.now a b) }
+fn push_note<A: Integer, B: Integer>(
+    out: &mut Vec<u8>,
+    word: &[u8],
+    a: A,
+    b: B,
+) -> Result<(), AllocError>
+    ensures { OnOk result (out.new.items ≡ out.old.items ++ (word.now ++ (following (A.text a ∷ B.text b ∷ []) ++ (10 ∷ [])))) }
 {
     out.extend_from_slice(word)?;
     push_cell(out, Some(a))?;
@@ -50,5 +56,5 @@ fn push_fault(out: &mut Vec<u8>, fault: Option<Fault>) -> Result<(), AllocError>
     let Some(Fault { refusal, place }) = fault else {
         return Ok(());
     };
-    push_note(out, b"refused", usize::from(u8::from(refusal)), place)
+    push_note(out, b"refused", u8::from(refusal), place)
 }

@@ -14,7 +14,7 @@ use entry::Entry;
 use std::alloc::AllocError;
 use wire::{Fault, Letter, Part, Statement, parse};
 
-// What a letter says, in a word.
+// What a letter says, in a word. The words stand one by one: the record's format names them, and a letter has no text.
 pub fn says(letter: Letter) -> &'static [u8]
     ensures { result.now ≡ says_of letter }
 {
@@ -31,7 +31,7 @@ pub fn says(letter: Letter) -> &'static [u8]
 }
 
 // Queue, slot, epoch, round, bit and set.
-pub fn operands(s: Statement<'_>) -> [Option<usize>; 6]
+pub fn operands(s: Statement<'_>) -> [Option<u16>; 6]
     ensures { result ≡ operands_of (message_of s.entry) }
 {
     match s {
@@ -50,22 +50,20 @@ pub fn operands(s: Statement<'_>) -> [Option<usize>; 6]
     }
 }
 
-fn in_slot(queue: Option<u8>, slot: u8) -> [Option<usize>; 6]
+fn in_slot(queue: Option<u8>, slot: u8) -> [Option<u16>; 6]
     ensures { result ≡ queue ∷ Some slot ∷ None ∷ None ∷ None ∷ None ∷ [] }
 {
-    let queue = queue.map(usize::from);
-    let slot = Some(usize::from(slot));
-    [queue, slot, None, None, None, None]
+    let slot = Some(u16::from(slot));
+    [queue.map(u16::from), slot, None, None, None, None]
 }
 
-fn in_epoch(epoch: u16, round: Option<u8>, bit: Option<u8>, set: Option<u8>) -> [Option<usize>; 6]
+fn in_epoch(epoch: u16, round: Option<u8>, bit: Option<u8>, set: Option<u8>) -> [Option<u16>; 6]
     ensures { result ≡ None ∷ None ∷ Some epoch ∷ round ∷ bit ∷ set ∷ [] }
 {
-    let epoch = Some(usize::from(epoch));
-    let round = round.map(usize::from);
-    let bit = bit.map(usize::from);
-    let set = set.map(usize::from);
-    [None, None, epoch, round, bit, set]
+    let round = round.map(u16::from);
+    let bit = bit.map(u16::from);
+    let set = set.map(u16::from);
+    [None, None, Some(epoch), round, bit, set]
 }
 
 // How many columns a kind has.
@@ -85,21 +83,22 @@ fn push_columns<K: Entry>(out: &mut Vec<u8>, entry: Option<K>) -> Result<(), All
     Ok(())
 }
 
-// The number in a column, if there is one. It is widened by `as`: std has no `From<u32>` for `usize`.
-fn column<K: Entry>(entry: &Option<K>, i: usize) -> Option<usize>
+// The number in a column, if there is one.
+fn column<K: Entry>(entry: &Option<K>, i: usize) -> Option<u32>
     ensures { result ≡ slice_get (numbers_of K.columns (option_map K.bytes entry.now)) i }
 {
-    let number = entry.as_ref()?.column(i)?;
-    Some(number as usize)
+    entry.as_ref()?.column(i)
 }
 
-impl<'a, K: Entry> Row<'a, K> {
-    // The sound statement that a part of a frame is; or a fault, where it is none or its entry is not of the kind.
-    pub fn read(part: Part<'a>) -> Result<Row<'a, K>, Fault>
-        ensures { MatchResult result
-            (λ row. part_read (kind_of K.WIDTH K.valid K.heading K.columns) part.entry.place part.entry.bytes.now ≡ Ok (row.place, message_of row.statement))
-            (λ fault. part_read (kind_of K.WIDTH K.valid K.heading K.columns) part.entry.place part.entry.bytes.now ≡ Err (number_of fault.refusal, fault.place)) }
-    {
+// The sound statement that a part of a frame is; or a fault, where it is none or its entry is not of the kind.
+impl<'a, K: Entry> TryFrom<Part<'a>> for Row<'a, K> {
+    type Error = Fault;
+
+    ghost try_from_gives = { λ part read. MatchResult read
+        (λ row. part_read (kind_of K.WIDTH K.valid K.heading K.columns) part.place part.bytes.now ≡ Ok (row.place, message_of row.statement))
+        (λ fault. part_read (kind_of K.WIDTH K.valid K.heading K.columns) part.place part.bytes.now ≡ Err (number_of fault.refusal, fault.place)) };
+
+    fn try_from(part: Part<'a>) -> Result<Row<'a, K>, Fault> {
         let place = part.place;
         let fault = |refusal| Fault { refusal, place };
         let statement = parse::<K>(part.bytes).map_err(fault)?;
@@ -114,7 +113,9 @@ impl<'a, K: Entry> Row<'a, K> {
             entry,
         })
     }
+}
 
+impl<K: Entry> Row<'_, K> {
     // Puts the row behind others.
     pub fn push(self, out: &mut Vec<u8>) -> Result<(), AllocError>
         ensures { OnOk result (out.new.items ≡ out.old.items ++ row_of (kind_of K.WIDTH K.valid K.heading K.columns) self.entry.place (message_of self.entry.statement)) }

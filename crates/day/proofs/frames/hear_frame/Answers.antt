@@ -1,11 +1,14 @@
-use Rattle.std.proofs.Common.{◌≡◌, ◌+◌, List, ◌∷◌, length, Ok, Err, fold, vec_items, sym, ap, ◌∙◌, append-nil}
+use Rattle.std.proofs.Common.{◌≡◌, ℕ, ◌+◌, length, fold, Result, vec_items, sym, ap, ◌∙◌}
 use Rattle.std.proofs.lemmas.List.Elements.{All-same}
-use Rattle.common.specs.Refusals.{number_of}
-use Rattle.replica.specs.Store.{store}
+use Rattle.common.specs.Refusals.{numbered}
+use Rattle.common.specs.declared.refusal.Refusal.{Refusal}
+use Rattle.replica.specs.declared.state.Replica.{Replica}
+use Rattle.replica.specs.Store.{Store, store}
 use Rattle.wire.specs.Steps.{Step, step_of, steps_of, left, Inside}
 use Rattle.day.specs.Days.{Run, called}
 use Rattle.day.proofs.Hearing.{step_heard, frame_steps, step_on}
 use Rattle.day.proofs.frames.hear_frame.Goals as goal
+use Rattle.day.proofs.frames.hear_frame.Goals.{in-Ok, in-Err}
 
 pub loop-step-init : goal.loop-step-init
 loop-step-init g c =
@@ -17,38 +20,24 @@ loop-step-init g c =
       ap (fold (step_heard k.WIDTH k.valid x.sender x.start) r) all ∙ sym (frame_steps k.WIDTH k.valid x.sender x.start x.bytes.now r),
     )
 
-pub loop-step-preserved-in-Continue-1 : goal.loop-step-preserved-in-Continue-1
-loop-step-preserved-in-Continue-1 g c =
-    let k = g.K.Entry in
-    let x = c.args.sent in
-    let l = c.loop-step in
-    let r : Run = (vec_items l.text, l.replica, store k.bytes l.tables) in
-    let more : List Step = left k.WIDTH c.next.new.self in
-    let first : left k.WIDTH l.step-iterator ≡ Ok (c.in-Ok.part.place, c.in-Ok.part.bytes.now) ∷ more = c.in-Some.ensures.steps ∙ ap (λ s. step_of s ∷ more) c.in-Ok.is in
-    step_on k.WIDTH k.valid x.sender x.start (length x.bytes.now) _ _ more r _ _ first
-    (ap (λ text. (text, c.hear.new.replica, store k.bytes c.hear.new.tables)) c.in_ok-push_refused-in-Ok.ensures ∙ ap (called r.0 (x.start + c.in-Ok.part.place)) c.in-Err-hear.ensures.value)
-    l.invariant
-
-pub loop-step-preserved-in_default : goal.loop-step-preserved-in_default
-loop-step-preserved-in_default g c =
-    let k = g.K.Entry in
-    let x = c.args.sent in
-    let l = c.loop-step in
-    let r : Run = (vec_items l.text, l.replica, store k.bytes l.tables) in
-    let more : List Step = left k.WIDTH c.next.new.self in
-    let first : left k.WIDTH l.step-iterator ≡ Ok (c.in-Ok.part.place, c.in-Ok.part.bytes.now) ∷ more = c.in-Some.ensures.steps ∙ ap (λ s. step_of s ∷ more) c.in-Ok.is in
-    step_on k.WIDTH k.valid x.sender x.start (length x.bytes.now) _ _ more r _ _ first
-    (ap (λ text. (text, c.hear.new.replica, store k.bytes c.hear.new.tables)) (sym (append-nil r.0)) ∙ ap (called r.0 (x.start + c.in-Ok.part.place)) c.in_default.ensures.value)
-    l.invariant
-
 pub loop-step-preserved : goal.loop-step-preserved
 loop-step-preserved g c =
     let k = g.K.Entry in
     let x = c.args.sent in
     let l = c.loop-step in
+    let m = c.match-step in
     let r : Run = (vec_items l.text, l.replica, store k.bytes l.tables) in
-    let more : List Step = left k.WIDTH c.next.new.self in
-    let first : left k.WIDTH l.step-iterator ≡ Err (number_of c.in-Err.fault.refusal, c.in-Err.fault.place) ∷ more = c.in-Some.ensures.steps ∙ ap (λ s. step_of s ∷ more) c.in-Err.is in
-    step_on k.WIDTH k.valid x.sender x.start (length x.bytes.now) _ _ more r _ _ first
-    (ap (λ text. (text, l.replica, store k.bytes l.tables)) c.in_ok-push_refused-in-Err.ensures)
+    let said = λ (place : ℕ) (answer : Result (Unit {0}) Refusal) (replica : Replica) (tables : Store). called r.0 (x.start + place) (numbered answer, replica, tables) in
+    let same = λ (s : Step). step_heard k.WIDTH k.valid x.sender x.start r s in
+    let heard : said m.place.0 m.place.1 m.replica (store k.bytes m.tables) ≡ same (step_of c.in-Some.step) =
+    (elim m.branch [
+      | in-Ok w ↦
+          (λ i. said (w.place-is i).0 (w.place-is i).1 (w.replica-is i) (store k.bytes (w.tables-is i)))
+          ∙ ap (called r.0 (x.start + w.in-Ok.part.place)) w.hear.ensures.value ∙ sym (ap (λ s. same (step_of s)) w.in-Ok.is)
+      | in-Err w ↦
+          (λ i. said (w.place-is i).0 (w.place-is i).1 (w.replica-is i) (store k.bytes (w.tables-is i)))
+          ∙ sym (ap (λ s. same (step_of s)) w.in-Err.is)
+    ]) in
+    step_on k.WIDTH k.valid x.sender x.start (length x.bytes.now) _ _ (left k.WIDTH c.next.new.self) r _ _ c.in-Some.ensures.steps
+    (ap (λ text. (text, m.replica, store k.bytes m.tables)) c.in_ok-push_answer.ensures ∙ heard)
     l.invariant
