@@ -5,7 +5,8 @@ use replica::{Page, Replica, Set, Stage, Tables};
 use std::test::Fail;
 use votes::{Marks, Mask, Round, Votes};
 
-// How many cells there are of sends, echoes, readies, haves and pages.
+// How many cells there are of sends, echoes, readies, haves and pages. No struct: the tests spell them in a row, as
+// [4, 16, 16, 16, 4].
 pub type Lengths = [usize; 5];
 
 pub const ALL: Lengths = [257, 4097, 4097, 4097, 257];
@@ -13,7 +14,8 @@ pub const ALL: Lengths = [257, 4097, 4097, 4097, 257];
 // The bytes of a reading.
 pub const READING: [u8; 8] = [0, 12, 7, 1, 0, 0, 13, 72];
 
-// Memory for the largest set, with a cell to spare in each table, and how many cells of each are lent.
+// Memory for the largest set, with a cell to spare in each table, and how many cells of each are lent. These are no
+// `Tables`, which have only what is lent: the cells past that are compared too, since they must stay as they were.
 #[derive(PartialEq, Drop)]
 pub struct Cells<K> {
     pub lent: Lengths,
@@ -94,7 +96,7 @@ pub fn read<K: Entry>(s: &[u8]) -> Result<K, Fail> {
     Ok(K::read(s).ok_or("no entry")?)
 }
 
-// How many cells a set needs of each table.
+// How many cells a set needs of each table, reckoned apart from the code under test.
 pub fn needed(n: u8, w: u8) -> Lengths {
     let slots = usize::from(n) * usize::from(w);
     let rows = slots * usize::from(n);
@@ -119,7 +121,7 @@ pub fn begin<K: Entry>(n: u8, me: u8, w: u8, cells: &mut Cells<K>) -> Result<Rep
 }
 
 // What make answers with so many cells lent, and which of cells that were all filled it leaves empty: so many
-// of each table, where it is accepted, and no other.
+// of each table, where it is accepted, and no other. A refusal is wanted by its number, which is what a caller is told.
 pub fn makes(n: u8, me: u8, w: u8, lent: Lengths, wanted: Result<Lengths, u8>) -> Result<(), Fail> {
     let item = Some(read::<Reading>(&READING)?);
     let mut cells = Cells::of(item, lent);
@@ -146,10 +148,9 @@ pub fn just_fits(n: u8, w: u8, slots: usize, rows: usize) -> Result<(), Fail> {
     Ok(())
 }
 
-// The replica is as one begins, with these numbers: how many there are, the own one, slots, faults and quorum.
-pub fn begins(replica: &Replica, numbers: [u8; 5]) -> Result<(), Fail> {
-    let set = replica.set;
-    if [set.n, set.me, set.w, set.f, set.q] != numbers || *replica != begun(set) {
+// The replica is as one of this set begins.
+pub fn begins(replica: &Replica, set: Set) -> Result<(), Fail> {
+    if *replica != begun(set) {
         return Err(Fail::new("not as it begins"));
     }
     Ok(())

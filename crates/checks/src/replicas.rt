@@ -3,7 +3,7 @@ use crate::memory::{
     ALL, Cells, Lengths, READING, asked, begin, begins, just_fits, lacking, makes, read,
 };
 use entry::Reading;
-use replica::Replica;
+use replica::{Replica, Set};
 use std::test::Fail;
 
 // What the replica of 4 with one slot each needs.
@@ -53,7 +53,13 @@ fn first_check_first() -> Result<(), Fail> {
         (5, 5, 17, 2),
     ];
     declined(&rows, ALL)?;
-    let unlent = [(3, 0, 1, 1), (4, 4, 1, 2), (4, 0, 0, 3), (4, 0, 1, 4)];
+    let unlent = [
+        (3, 0, 1, 1),
+        (4, 4, 1, 2),
+        (5, 5, 17, 2),
+        (4, 0, 0, 3),
+        (4, 0, 1, 4),
+    ];
     declined(&unlent, [0; 5])
 }
 
@@ -65,7 +71,16 @@ fn made() -> Result<(Replica, Cells<Reading>), Fail> {
 
 #[test]
 fn as_it_begins() -> Result<(), Fail> {
-    begins(&made()?.0, [4, 2, 1, 1, 3])
+    begins(
+        &made()?.0,
+        Set {
+            n: 4,
+            me: 2,
+            w: 1,
+            f: 1,
+            q: 3,
+        },
+    )
 }
 
 // The first two pages stand in their cells; a page's epoch is 100 and its place.

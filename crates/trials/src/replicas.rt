@@ -3,6 +3,7 @@ use checks::memory::{
     ALL, Cells, Lengths, READING, asked, begin, begins, just_fits, lacking, makes, needed, read,
 };
 use entry::Reading;
+use replica::Set;
 use std::test::*;
 
 #[test]
@@ -47,9 +48,33 @@ fn numbers_out_of_range() -> Result<(), Fail> {
 #[test]
 fn as_it_begins() -> Result<(), Fail> {
     let mut cells = Cells::of(Some(read::<Reading>(&READING)?), ALL);
-    begins(&begin(4, 2, 1, &mut cells)?, [4, 2, 1, 1, 3])?;
-    begins(&begin(6, 0, 2, &mut cells)?, [6, 0, 2, 1, 4])?;
-    begins(&begin(16, 15, 16, &mut cells)?, [16, 15, 16, 5, 11])
+    let sets = [
+        Set {
+            n: 4,
+            me: 2,
+            w: 1,
+            f: 1,
+            q: 3,
+        },
+        Set {
+            n: 6,
+            me: 0,
+            w: 2,
+            f: 1,
+            q: 4,
+        },
+        Set {
+            n: 16,
+            me: 15,
+            w: 16,
+            f: 5,
+            q: 11,
+        },
+    ];
+    for set in sets {
+        begins(&begin(set.n, set.me, set.w, &mut cells)?, set)?;
+    }
+    Ok(())
 }
 
 // The pages at places 0, 1 and 255 stand in their cells; a page's epoch is 300 and its place.

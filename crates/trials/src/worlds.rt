@@ -29,7 +29,7 @@ pub const STAGES: [(u16, Stage); 4] = [
     (255, Stage::Awaiting),
 ];
 
-// What a call answers: the number of the refusal, where it declines.
+// What a call answers: the number of the refusal, where it declines, since the number is what a caller is told.
 pub type Answer = Result<(), u8>;
 
 // A kind of entry that is tried: the bytes of two entries, and bytes of its width that are none.
@@ -57,79 +57,108 @@ impl Tried for ShareOrder {
     const NONE: &'static [u8] = &[1, 0, 12, 0, 12, 0, 0, 0, 100];
 }
 
-// A replica with its cells, and what they should be; of how many it is made anew, and with how many slots.
+// A replica with its cells.
+#[derive(PartialEq, Drop)]
+struct State<K> {
+    replica: Replica,
+    cells: Cells<K>,
+}
+
+// What a replica with its cells is, and what it should be. `n` and `w` are what is tried, before there is a `Set` of
+// them: the next replica is made by them, and its own `Set` comes from the code under test.
 #[derive(Drop)]
 pub struct World<K> {
     pub n: u8,
     pub w: u8,
-    replica: Replica,
-    pub want: Replica,
-    cells: Cells<K>,
-    wanted: Cells<K>,
+    got: State<K>,
+    wanted: State<K>,
 }
 
-// A replica of four in cells that all hold an entry.
+// A replica of four in cells that all held an entry.
 pub fn made<K: Tried>() -> Result<World<K>, Fail> {
-    let item = Some(read(K::Y)?);
-    let mut cells = Cells::of(item, ALL);
-    let wanted = Cells::of(item, ALL);
-    let replica = begin(4, 0, 1, &mut cells)?;
+    let got = State::made(4, 0, 1, ALL)?;
+    let wanted = State::begun(got.replica.set, needed(4, 1), ALL)?;
     Ok(World {
         n: 4,
         w: 1,
-        replica,
-        want: replica,
-        cells,
+        got,
         wanted,
     })
 }
 
-// Fills the cell of a sender's statement with an entry.
-fn hold<K: Entry>(
-    cells: &mut Cells<K>,
-    set: Set,
-    sender: u8,
-    head: [u8; 4],
-    item: &[u8],
-) -> Result<(), Fail> {
-    let [letter, a, b, _] = head;
-    let w = usize::from(set.w);
-    let own = usize::from(sender) * w + usize::from(a);
-    let slot = usize::from(a) * w + usize::from(b);
-    let row = slot
-        .wrapping_mul(usize::from(set.n))
-        .wrapping_add(usize::from(sender));
-    match letter as char {
-        'S' => put_at(&mut cells.sends, own, read(item)?),
-        'E' => put_at(&mut cells.echoes, row, read(item)?),
-        'R' => put_at(&mut cells.readies, row, read(item)?),
-        'H' => put_at(&mut cells.haves, row, read(item)?),
-        _ => Err(Fail::new("no entry")),
+impl<K: Tried> State<K> {
+    // Made in cells that all held an old entry.
+    fn made(n: u8, me: u8, w: u8, lent: Lengths) -> Result<State<K>, Fail> {
+        let mut cells = Cells::of(Some(read(K::Y)?), lent);
+        let replica = begin(n, me, w, &mut cells)?;
+        Ok(State { replica, cells })
     }
-}
 
-// What hear answers to bytes from a sender, or submit to bytes from none.
-fn answer<K: Entry>(
-    replica: &mut Replica,
-    cells: &mut Cells<K>,
-    sender: Option<u8>,
-    s: &[u8],
-) -> Answer {
-    let mut tables = cells.tables();
-    let answer = match sender {
-        Some(sender) => hear(replica, &mut tables, sender, s),
-        None => submit(replica, &mut tables, s),
-    };
-    answer.map_err(u8::from)
-}
+    // What it should be when it was just made, where so many cells are needed.
+    fn begun(set: Set, need: Lengths, lent: Lengths) -> Result<State<K>, Fail> {
+        let mut cells = Cells::of(Some(read(K::Y)?), lent);
+        cells.clear(need);
+        let replica = begun(set);
+        Ok(State { replica, cells })
+    }
 
-// The replica in an epoch and a stage, with so many pages.
-fn placed(replica: Replica, epoch: u16, stage: Stage, pages: u16) -> Replica {
-    Replica {
-        epoch,
-        stage,
-        pages,
-        ..replica
+    fn lend(&mut self, lent: Lengths) {
+        self.cells.lent = lent;
+    }
+
+    fn set(&mut self, epoch: u16, stage: Stage, pages: u16) {
+        self.replica.epoch = epoch;
+        self.replica.stage = stage;
+        self.replica.pages = pages;
+    }
+
+    fn book(&mut self, place: usize, item: &[u8], count: u16) -> Result<(), Fail> {
+        self.replica.pages = count;
+        self.cells.write(place, 1, read(item)?)
+    }
+
+    // What hear answers to bytes from a sender, or submit to bytes from none.
+    fn answer(&mut self, sender: Option<u8>, s: &[u8]) -> Answer {
+        let mut tables = self.cells.tables();
+        let answer = match sender {
+            Some(sender) => hear(&mut self.replica, &mut tables, sender, s),
+            None => submit(&mut self.replica, &mut tables, s),
+        };
+        answer.map_err(u8::from)
+    }
+
+    // Fills the cell of a sender's statement with an entry. The place is reckoned here, and the `Grid` is not used: the
+    // test is not to go by the code that it tests.
+    fn hold(&mut self, sender: u8, head: [u8; 4], item: &[u8]) -> Result<(), Fail> {
+        let [letter, a, b, _] = head;
+        let Set { n, w, .. } = self.replica.set;
+        let own = usize::from(sender) * usize::from(w) + usize::from(a);
+        let slot = usize::from(a) * usize::from(w) + usize::from(b);
+        let row = slot
+            .wrapping_mul(usize::from(n))
+            .wrapping_add(usize::from(sender));
+        let cells = &mut self.cells;
+        match letter as char {
+            'S' => put_at(&mut cells.sends, own, read(item)?),
+            'E' => put_at(&mut cells.echoes, row, read(item)?),
+            'R' => put_at(&mut cells.readies, row, read(item)?),
+            'H' => put_at(&mut cells.haves, row, read(item)?),
+            _ => Err(Fail::new("no entry")),
+        }
+    }
+
+    // Marks a sender's vote, or fills the cell of its other statements. The head is the statement's first bytes and no
+    // `Statement`, also below: the test is not to go by the code that writes and reads one.
+    fn put(&mut self, sender: u8, head: [u8; 4], item: &[u8]) -> Result<(), Fail> {
+        let [letter, _, b, c] = head;
+        let votes = &mut self.replica.votes;
+        match letter as char {
+            'V' => mark(&mut round_of(votes, b)?.values, sender, of_bit(c)),
+            'A' => mark(&mut round_of(votes, b)?.seens, sender, of_bit(c)),
+            'C' => mark(&mut round_of(votes, b)?.confirms, sender, c),
+            'F' => mark(&mut votes.finish, sender, of_bit(b)),
+            _ => self.hold(sender, head, item),
+        }
     }
 }
 
@@ -150,12 +179,9 @@ impl<K: Tried> World<K> {
 
     // Makes the replica anew, in cells that all held an old entry.
     pub fn renew(&mut self, me: u8, lent: Lengths) -> Result<(), Fail> {
-        let item = Some(read(K::Y)?);
-        self.cells = Cells::of(item, lent);
-        self.replica = begin(self.n, me, self.w, &mut self.cells)?;
-        self.wanted = Cells::of(item, lent);
-        self.wanted.clear(needed(self.n, self.w));
-        self.want = begun(self.replica.set);
+        let need = needed(self.n, self.w);
+        self.got = State::made(self.n, me, self.w, lent)?;
+        self.wanted = State::begun(self.got.replica.set, need, lent)?;
         Ok(())
     }
 
@@ -186,25 +212,26 @@ impl<K: Tried> World<K> {
         Ok(())
     }
 
+    // Here and in three methods below each state has a call of its own: a loop over references to both has no proof
+    // by the borrow checker (tried).
     fn lend(&mut self, lent: Lengths) {
-        self.cells.lent = lent;
-        self.wanted.lent = lent;
+        self.got.lend(lent);
+        self.wanted.lend(lent);
     }
 
     // Puts the replica into an epoch and a stage, with so many pages.
     pub fn set(&mut self, epoch: u16, stage: Stage, pages: u16) {
-        self.replica = placed(self.replica, epoch, stage, pages);
-        self.want = placed(self.want, epoch, stage, pages);
+        self.got.set(epoch, stage, pages);
+        self.wanted.set(epoch, stage, pages);
     }
 
     // What a call answers, after which all is as wanted.
     fn calls(&mut self, sender: Option<u8>, s: &[u8], wanted: Answer) -> Result<(), Fail> {
-        let got = answer(&mut self.replica, &mut self.cells, sender, s);
+        let answer = self.got.answer(sender, s);
         let (n, w) = (self.n, self.w);
-        let same = self.replica == self.want && self.cells == self.wanted;
-        if got != wanted || !same {
+        if answer != wanted || self.got != self.wanted {
             return Err(Fail::new(format_args!(
-                "{n}, {w}: {s:?} from {sender:?}: {got:?} and not {wanted:?}, or not as wanted"
+                "{n}, {w}: {s:?} from {sender:?}: {answer:?} and not {wanted:?}, or not as wanted"
             )));
         }
         Ok(())
@@ -224,7 +251,7 @@ impl<K: Tried> World<K> {
         wanted: Answer,
     ) -> Result<(), Fail> {
         if wanted.is_ok() {
-            self.put(sender, head, item)?;
+            self.wanted.put(sender, head, item)?;
         }
         self.calls(Some(sender), line(head, item)?.as_slice(), wanted)
     }
@@ -236,39 +263,22 @@ impl<K: Tried> World<K> {
 
     // Submits an entry that is taken for a slot.
     pub fn takes(&mut self, item: &[u8], slot: u8) -> Result<(), Fail> {
-        let me = self.want.set.me;
-        self.put(me, [b'S', slot, 0, 0], item)?;
+        let me = self.wanted.replica.set.me;
+        self.wanted.put(me, [b'S', slot, 0, 0], item)?;
         self.calls(None, item, Ok(()))
     }
 
     // Holds an own statement with an entry, as if it was stated before.
     pub fn holds(&mut self, head: [u8; 4], item: &[u8]) -> Result<(), Fail> {
-        let set = self.want.set;
-        hold(&mut self.cells, set, set.me, head, item)?;
-        hold(&mut self.wanted, set, set.me, head, item)
+        let me = self.wanted.replica.set.me;
+        self.got.hold(me, head, item)?;
+        self.wanted.hold(me, head, item)
     }
 
     // Writes an entry on a page, and has so many pages.
     pub fn books(&mut self, place: usize, item: &[u8], count: u16) -> Result<(), Fail> {
-        let item = read(item)?;
-        self.cells.write(place, 1, item)?;
-        self.wanted.write(place, 1, item)?;
-        self.set(self.want.epoch, self.want.stage, count);
-        Ok(())
-    }
-
-    // Fills the wanted cell of a sender's statement.
-    fn put(&mut self, sender: u8, head: [u8; 4], item: &[u8]) -> Result<(), Fail> {
-        let [letter, _, b, c] = head;
-        let set = self.want.set;
-        let votes = &mut self.want.votes;
-        match letter as char {
-            'V' => mark(&mut round_of(votes, b)?.values, sender, of_bit(c)),
-            'A' => mark(&mut round_of(votes, b)?.seens, sender, of_bit(c)),
-            'C' => mark(&mut round_of(votes, b)?.confirms, sender, c),
-            'F' => mark(&mut votes.finish, sender, of_bit(b)),
-            _ => hold(&mut self.wanted, set, sender, head, item),
-        }
+        self.got.book(place, item, count)?;
+        self.wanted.book(place, item, count)
     }
 }
 
@@ -282,7 +292,7 @@ fn of_bit(bit: u8) -> u8 {
     bit.wrapping_add(1)
 }
 
-// Marks the bits of a set: 1 is bit 0, 2 is bit 1, and 3 is both.
+// Marks the bits of a set: 1 is bit 0, 2 is bit 1, and 3 is both. The mask is made apart from the code under test.
 fn mark(marks: &mut Marks, sender: u8, set: u8) -> Result<(), Fail> {
     if sender >= 16 {
         return Err(Fail::new("out of range"));
@@ -297,7 +307,8 @@ fn mark(marks: &mut Marks, sender: u8, set: u8) -> Result<(), Fail> {
     Ok(())
 }
 
-// The bytes of a statement: as much of a head as its letter has, and its entry, if it has one.
+// The bytes of a statement: as much of a head as its letter has, and its entry, if it has one. They are put together
+// here, apart from the code under test.
 pub fn line(head: [u8; 4], item: &[u8]) -> Result<ArrayVec<u8, 16>, Fail> {
     let mut line = ArrayVec::new();
     let [letter, a, b, c] = head;
