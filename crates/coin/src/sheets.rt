@@ -21,9 +21,6 @@ impl Coin for Sheet {
 
     fn toss(&mut self, epoch: u16, round: u8) -> bool {
         let at = 2 * usize::from(epoch) + usize::from(round) / 8;
-        if at >= SHEET {
-            return false;
-        }
-        (self.dealt[at] >> (round % 8)) % 2 == 1
+        self.dealt.get(at).is_some_and(|byte| (byte >> (round % 8)) % 2 == 1)
     }
 }
