@@ -38,6 +38,8 @@ no-gift s k e = grind (arith, nat_tests)
 no-close : (s : List ℕ) → byte s 0 ≡ 2 → is_close (pair s 3) (word s 5) ≡ false → is_order s ≡ false
 no-close s k e = grind (arith, nat_tests)
 
+-- the two answers stay apart: the facts of the two exits have types of their own, and a lemma for both would take
+-- each fact by itself
 pub returns-in-1 : goal.returns-in-1
 returns-in-1 c =
     let s = c.args.s.now in
