@@ -7,7 +7,7 @@ use crate::sheet::{SHEET, Sheet};
 use common::Refusal;
 
 impl Sheet {
-    // The sheet with these bytes.
+    // The sheet with these bytes; a named call of the product, and so no conversion.
     pub fn deal(bytes: &[u8]) -> Result<Sheet, Refusal>
         ensures { answered (λ s. s.dealt) result ≡ deal_of bytes.now }
     {
@@ -21,9 +21,8 @@ impl Coin for Sheet {
 
     fn toss(&mut self, epoch: u16, round: u8) -> bool {
         let at = 2 * usize::from(epoch) + usize::from(round) / 8;
-        if at >= SHEET {
-            return false;
-        }
-        (self.dealt[at] >> (round % 8)) % 2 == 1
+        self.dealt
+            .get(at)
+            .is_some_and(|byte| (byte >> (round % 8)) % 2 == 1)
     }
 }

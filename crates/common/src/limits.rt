@@ -1,4 +1,5 @@
-// The limits of a set; specs/Limits.antt has the same numbers for the promises.
+// The limits of a set. specs/Limits.antt has the same numbers for the promises: tried with these cited there, and a
+// changed limit changed the promises with it and was let through.
 
 // How many replicas a set has.
 pub const MIN_REPLICAS: u8 = 4;

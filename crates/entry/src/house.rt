@@ -7,3 +7,7 @@ pub struct House {
     ghost least: { 1 ≤ number },
     ghost most: { number ≤ 999 },
 }
+
+// A number that no house has.
+#[derive(Clone, Copy, Debug, PartialEq, Eq)]
+pub struct UnknownHouse(pub u16);

@@ -15,7 +15,7 @@ mod reading;
 mod readings;
 
 pub use gift::Gift;
-pub use house::House;
+pub use house::{House, UnknownHouse};
 pub use kind::{Entry, reread};
 pub use order::ShareOrder;
 pub use quantity::{Quantity, UnknownQuantity};

@@ -15,7 +15,7 @@ impl ShareOrder {
     pub fn give(from: House, to: u16, amount: u32) -> Option<ShareOrder>
         ensures { MatchOption result (is_gift from.number to amount ≡ false) (λ x. fields_of x ≡ (1, from.number, to, amount)) }
     {
-        let to = House::new(to)?;
+        let to = House::try_from(to).ok()?;
         if from == to || amount < 1 {
             return None;
         }
@@ -33,7 +33,8 @@ impl ShareOrder {
     }
 
     // The number of its kind, from, to and amount, with zeros where it has none. The 1 and the 2 are the
-    // format's first byte, written here and read in `read` alone.
+    // format's first byte, written here and read in `read` alone: an enum of kinds with its two conversions is no
+    // plainer for two bytes.
     pub fn fields(&self) -> (u8, u16, u16, u32)
         ensures { result ≡ fields_of self.now }
     {
@@ -79,7 +80,7 @@ impl Entry for ShareOrder {
         let &[kind, f1, f0, t1, t0, a3, a2, a1, a0] = s else {
             return None;
         };
-        let from = House::new(u16::from_be_bytes([f1, f0]))?;
+        let from = House::try_from(u16::from_be_bytes([f1, f0])).ok()?;
         let to = u16::from_be_bytes([t1, t0]);
         let amount = u32::from_be_bytes([a3, a2, a1, a0]);
         match kind {

@@ -46,8 +46,8 @@ impl Entry for Reading {
         let &[h1, h0, week, q, a3, a2, a1, a0] = s else {
             return None;
         };
-        let house = House::new(u16::from_be_bytes([h1, h0]))?;
-        if week < 1 || week > 53 {
+        let house = House::try_from(u16::from_be_bytes([h1, h0])).ok()?;
+        if !(1..=53).contains(&week) {
             return None;
         }
         let quantity = Quantity::try_from(q).ok()?;

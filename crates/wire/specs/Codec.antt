@@ -33,7 +33,8 @@ parse_of w (b ∷ s) = whole_of w (b ∷ s) (letter_of b)
 abbrev pub measured : ℕ → List ℕ → Result (Unit {0}) ℕ
 measured n s = cond (nat_lt (length s) n) (declined refusals.Short) (cond (nat_lt n (length s)) (declined refusals.Long) (Ok tt))
 
--- the entry is too short or too long for its kind
+-- the entry is too short or too long for its kind; one test with `measured` above would need a map from an answer to
+-- an option, which is no plainer
 abbrev pub misfit : ℕ → List ℕ → Option ℕ
 misfit w x = cond (nat_lt (length x) w) (Some (number_of refusals.Short)) (cond (nat_lt w (length x)) (Some (number_of refusals.Long)) None)
 

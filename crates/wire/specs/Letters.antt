@@ -1,5 +1,5 @@
 -- The letter that a statement begins with, and how long the statement is.
-use Rattle.std.specs.Prelude.{ℕ, ◌+◌, cond, Some, None, Ok, Err, Option, Result, ◌==◌}
+use Rattle.std.specs.Prelude.{ℕ, ◌+◌, cond, Some, None, Option, Result, ◌==◌, ok_or}
 use Rattle.common.specs.declared.refusal.Refusal.{Refusal}
 use Rattle.common.specs.declared.refusal.Refusal.TheVariants as refusals
 use Rattle.wire.specs.declared.letter.Letter.{Letter}
@@ -29,8 +29,7 @@ letter_of b =
 
 -- the letter, or the refusal where there is none
 abbrev pub known : Option Letter → Result Letter Refusal
-known None = Err refusals.Letter
-known (Some l) = Ok l
+known l = ok_or l refusals.Letter
 
 -- the length of a statement whose entry has w bytes
 abbrev pub length_of : ℕ → Letter → ℕ

@@ -8,20 +8,15 @@ use common::Refusal;
 use entry::Entry;
 
 // The part of a frame, from a place on, that is its next statement, or none at the frame's end.
+// Its law is answered at each exit: tried with `using`, which does not find it.
 pub fn next<K: Entry>(frame: &[u8], place: usize) -> Result<Option<&[u8]>, Refusal>
     ensures value { answered (option_map (λ x. x.now)) result ≡ next_of K.WIDTH frame.now place }
     ensures walks { Walks K.WIDTH frame.now }
 {
-    if place > frame.len() {
-        return Err(Refusal::Place);
-    }
-    if place == frame.len() {
+    let rest = frame.get(place..).ok_or(Refusal::Place)?;
+    let Some(&byte) = rest.first() else {
         return Ok(None);
-    }
-    let letter = Letter::try_from(frame[place])?;
-    let n = letter.length::<K>();
-    if n > frame.len() - place {
-        return Err(Refusal::Short);
-    }
-    Ok(Some(&frame[place..place + n]))
+    };
+    let n = Letter::try_from(byte)?.length::<K>();
+    rest.get(..n).map(Some).ok_or(Refusal::Short)
 }

@@ -1,4 +1,4 @@
-ghost use Rattle.std.specs.Prelude.{◌≡◌, ℕ, ◌≤◌, List, length, drop, IfOk, None};
+ghost use Rattle.std.specs.Prelude.{◌≡◌, ℕ, ◌≤◌, List, length, IfOk, None};
 ghost use Rattle.common.specs.Refusals.{answered};
 ghost use Rattle.wire.specs.Letters.{length_of};
 ghost use Rattle.wire.specs.Statements.{message_of};
@@ -15,10 +15,8 @@ pub fn parse<K: Entry>(s: &[u8]) -> Result<Statement<'_>, Refusal>
     ensures value { answered message_of result ≡ parse_of K.WIDTH s.now }
     ensures back { IfOk result (λ x. (out : List ℕ) → write_of K.WIDTH (message_of x) out ≡ placed None s.now out) }
 {
-    if s.is_empty() {
-        return Err(Refusal::Short);
-    }
-    let letter = Letter::try_from(s[0])?;
+    let byte = *s.first().ok_or(Refusal::Short)?;
+    let letter = Letter::try_from(byte)?;
     measure(s, letter.length::<K>())?;
     Ok(operands::<K>(letter, s))
 }
@@ -28,12 +26,12 @@ fn operands<K: Entry>(letter: Letter, s: &[u8]) -> Statement<'_>
     requires { length_of K.WIDTH letter ≤ length s.now }
     ensures { message_of result ≡ read_of letter s.now }
 {
-    let (queue, slot, item) = (s[1], s[2], rest(s, 3));
+    let (queue, slot, item) = (s[1], s[2], &s[3..]);
     let (epoch, round) = (u16::from(s[1]), s[2]);
     match letter {
         Letter::Send => Statement::Send {
             slot: s[1],
-            item: rest(s, 2),
+            item: &s[2..],
         },
         Letter::Echo => Statement::Echo { queue, slot, item },
         Letter::Ready => Statement::Ready { queue, slot, item },
@@ -55,12 +53,4 @@ fn operands<K: Entry>(letter: Letter, s: &[u8]) -> Statement<'_>
         },
         Letter::Finish => Statement::Finish { epoch, bit: s[2] },
     }
-}
-
-// What stands from `i` on.
-fn rest(s: &[u8], i: usize) -> &[u8]
-    requires { i ≤ length s.now }
-    ensures { result.now ≡ drop i s.now }
-{
-    &s[i..]
 }

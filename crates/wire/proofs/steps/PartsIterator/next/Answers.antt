@@ -21,6 +21,8 @@ returns-in-Ok-Some-clause-steps g c =
     let one = step_part w it.place it.rest.now t (first_next w it.rest.now _ (ap (λ o. Ok (option_map (λ x. x.now) o)) (sym c.in-Ok-Some.field-0-is) ∙ c.in-Ok-Some.ensures.value)) in
     one ∙ ap (λ s. Ok (it.place, t) ∷ steps_of w (it.place + length t) s) (sym (between_to_end it.rest.now (length t) _ (le_refl _)))
 
+-- the two answers `goes` stay apart: the facts of the two exits have types of their own, and a lemma for both would
+-- say the clause again
 pub returns-in-Ok-Some-clause-goes : goal.returns-in-Ok-Some-clause-goes
 returns-in-Ok-Some-clause-goes g c =
     record { on = λ _. (tt, tt, omega (arith, ap length (returns-in-Ok-Some-clause-steps g c))); keeps = tt; rests = λ _. tt }
