@@ -1,4 +1,4 @@
-// Operands of a statement: in range, and what they are.
+// Operands of a statement: in range, and what they are. A range is a comparison with its limit, as its definition says.
 ghost use Rattle.std.specs.Prelude.{◌≡◌};
 ghost use Rattle.common.specs.Refusals.{answered, numbered};
 ghost use Rattle.intake.specs.Hearing.{bit_numbered, operand_of, item_of, timely_of, vote_of};
