@@ -12,11 +12,7 @@ use replica::{Claim, Fitted, Replica, Tables};
 use wire::parse;
 
 // What the bytes from a sender state, if that is accepted.
-fn judge<K: Entry>(
-    lent: &Fitted<'_, '_, K>,
-    sender: u8,
-    s: &[u8],
-) -> Result<Claim<K>, Refusal>
+fn judge<K: Entry>(lent: &Fitted<'_, '_, K>, sender: u8, s: &[u8]) -> Result<Claim<K>, Refusal>
     ensures { answered (claim_of K.bytes) result ≡ judge_of K.WIDTH K.valid lent.now.replica.now (store K.bytes lent.now.tables.now) sender s.now }
 {
     let replica = lent.replica;
