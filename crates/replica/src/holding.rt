@@ -41,13 +41,8 @@ impl<K: Entry> Fitted<'_, '_, K> {
                 settle(tables.haves.get(grid.place(queue, slot, sender)), item)
             }
             Claim::Value { round, bit, .. } => {
-                settle(
-                    rounds[usize::from(round)]
-                        .values
-                        .has(bit, sender)
-                        .then_some(bit),
-                    bit,
-                )
+                let held = rounds[usize::from(round)].values.has(bit, sender);
+                settle(held.then_some(bit), bit)
             }
             Claim::Seen { round, bit, .. } => {
                 settle(rounds[usize::from(round)].seens.bit(sender), bit)
