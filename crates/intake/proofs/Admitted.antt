@@ -12,7 +12,7 @@ use Rattle.replica.specs.declared.state.Replica.{Replica}
 use Rattle.replica.specs.Store.{Store}
 use Rattle.replica.specs.View.{held, plan, box}
 use Rattle.replica.proofs.Finding.{held_some, mapped_some}
-use Rattle.intake.specs.Hearing.{and_then, bit_numbered, item_of, timely_of, vote_of, admit_of}
+use Rattle.intake.specs.Hearing.{and_then, bit_numbered, operand_of, item_of, timely_of, vote_of, admit_of}
 use Rattle.intake.specs.Meaning.{means_of}
 
 -- an answer that is not declined has passed each check
@@ -41,7 +41,7 @@ module _ (valid : List ℕ → Bool) (m : Replica) where
       let p = and_parts _ _ r in
       rw (lt-leb m.set.n q (ltb-true _ _ p.0), lt-leb m.set.w s (ltb-true _ _ p.1), v) refl
 
-  vote_passed : {A : Type 0} (e k : ℕ) (o : Option A) (v : A) → vote_of m e k o ≡ Ok v → ((ltb k rounds && (ltb e epochs && eqb e m.epoch)) ≡ true) × (o ≡ Some v)
+  vote_passed : {A : Type 0} (e k : ℕ) (o : Option A) (v : A) → vote_of m e k (operand_of o) ≡ Ok v → ((ltb k rounds && (ltb e epochs && eqb e m.epoch)) ≡ true) × (o ≡ Some v)
   vote_passed e k None v h = absurd (let z : ◌≡◌ {A = ℕ} 0 1 = cc in omega arith)
   vote_passed e k (Some u) v h =
       let t = passed_then (timely_of m e k) (λ _. Ok u) v h in
@@ -53,7 +53,7 @@ module _ (valid : List ℕ → Bool) (m : Replica) where
       let same : Ok u ≡ Ok v = t.2 in
       (and_from _ _ (lt-ltb k _ (leb-false _ _ o.0)) (and_from _ _ (lt-ltb e _ (leb-false _ _ o.1)) (eq-eqb e _ now)), ap Some cc)
 
-  vote_passes : {A : Type 0} (e k : ℕ) (v : A) → (ltb k rounds && (ltb e epochs && eqb e m.epoch)) ≡ true → vote_of m e k (Some v) ≡ Ok v
+  vote_passes : {A : Type 0} (e k : ℕ) (v : A) → (ltb k rounds && (ltb e epochs && eqb e m.epoch)) ≡ true → vote_of m e k (operand_of (Some v)) ≡ Ok v
   vote_passes e k v r =
       let p = and_parts (ltb k rounds) _ r in
       let q = and_parts (ltb e epochs) _ p.1 in
@@ -80,19 +80,19 @@ module _ (valid : List ℕ → Bool) (m : Replica) where
         let e : f x ≡ st = cc in
         ap (λ i. and_then i (λ y. Ok (f y))) (item_passes q s x (imp (subst Ranged (sym e) r)) p.0) ∙ ap Ok e
 
-    vote_admitted : {A : Type 0} (f : A → Stmt (List ℕ)) (e k : ℕ) (o : Option A) (st : Stmt (List ℕ)) → ((ltb k rounds && (ltb e epochs && eqb e m.epoch)) ≡ true → (v : A) → Ranged (f v)) → and_then (vote_of m e k o) (λ v. Ok (f v)) ≡ Ok st
+    vote_admitted : {A : Type 0} (f : A → Stmt (List ℕ)) (e k : ℕ) (o : Option A) (st : Stmt (List ℕ)) → ((ltb k rounds && (ltb e epochs && eqb e m.epoch)) ≡ true → (v : A) → Ranged (f v)) → and_then (vote_of m e k (operand_of o)) (λ v. Ok (f v)) ≡ Ok st
         → Ranged st × (option_map f o ≡ Some st)
     vote_admitted f e k o st imp h =
-        let r = passed_then (vote_of m e k o) (λ v. Ok (f v)) st h in
+        let r = passed_then (vote_of m e k (operand_of o)) (λ v. Ok (f v)) st h in
         let p = vote_passed e k o r.0 r.1 in
         let same : ◌≡◌ {A = Result (Stmt (List ℕ)) ℕ} (Ok (f r.0)) (Ok st) = r.2 in
         let z : f r.0 ≡ st = cc in
         (subst Ranged z (imp p.0 r.0), ap (option_map f) p.1 ∙ ap Some z)
 
-    vote_admits : {A : Type 0} (f : A → Stmt (List ℕ)) (e k : ℕ) (o : Option A) (st : Stmt (List ℕ)) → ((v : A) → Ranged (f v) → (ltb k rounds && (ltb e epochs && eqb e m.epoch)) ≡ true) → Ranged st → option_map f o ≡ Some st → and_then (vote_of m e k o) (λ v. Ok (f v)) ≡ Ok st
+    vote_admits : {A : Type 0} (f : A → Stmt (List ℕ)) (e k : ℕ) (o : Option A) (st : Stmt (List ℕ)) → ((v : A) → Ranged (f v) → (ltb k rounds && (ltb e epochs && eqb e m.epoch)) ≡ true) → Ranged st → option_map f o ≡ Some st → and_then (vote_of m e k (operand_of o)) (λ v. Ok (f v)) ≡ Ok st
     vote_admits f e k o st imp r h =
         let p = mapped_some f o st h in
-        ap (λ i. and_then (vote_of m e k i) (λ v. Ok (f v))) p.1 ∙ ap (λ i. and_then i (λ v. Ok (f v))) (vote_passes e k p.0 (imp p.0 (subst Ranged (sym p.2) r))) ∙ ap Ok p.2
+        ap (λ i. and_then (vote_of m e k (operand_of i)) (λ v. Ok (f v))) p.1 ∙ ap (λ i. and_then i (λ v. Ok (f v))) (vote_passes e k p.0 (imp p.0 (subst Ranged (sym p.2) r))) ∙ ap Ok p.2
 
     module _ (j : ℕ) where
       pub admitted : (x : Message) (st : Stmt (List ℕ)) → admit_of valid m j x ≡ Ok st → Ranged st × (means_of valid x ≡ Some st)

@@ -4,6 +4,7 @@ use Rattle.std.proofs.lemmas.Bool.{ltb-true, leb-false, lt-ltb, lt-leb, not-fals
 use Rattle.theory.specs.Statement.{Stmt, StmtEq, cell, decided}
 use Rattle.theory.specs.Calls.{ranged, accepts}
 use Rattle.theory.specs.Search.{absent}
+use Rattle.theory.proofs.Searching.{absent_none}
 use Rattle.wire.specs.Codec.{parse_of}
 use Rattle.replica.specs.declared.state.Replica.{Replica}
 use Rattle.replica.specs.Store.{Store, fits}
@@ -20,10 +21,6 @@ taken_never false e = let z : ◌≡◌ {A = ℕ} 0 1 = cc in omega arith
 settled_free : {A : Type 0} (d : Discrete A) (o : Option A) (x : A) → settled d o x ≡ Ok tt → o ≡ None
 settled_free d None x e = refl
 settled_free d (Some y) x e = absurd (taken_never (decided (d y x)) e)
-
-absent_none : {A : Type 0} (o : Option A) → absent o ≡ true → o ≡ None
-absent_none None e = refl
-absent_none (Some a) e = absurd (let z : ◌≡◌ {A = ℕ} 0 1 = cc in omega arith)
 
 module _ (w : ℕ) (valid : List ℕ → Bool) (m : Replica) (t : Store) (j : ℕ) (s : List ℕ) where
   -- what was judged and found good

@@ -1,7 +1,7 @@
 -- Hear: which statements are accepted, and what they change.
-use Rattle.std.specs.Prelude.{ℕ, Bool, true, false, cond, not, ◌||◌, List, Some, None, Ok, Err, Option, Result, ◌==◌, nat_le, nat_lt}
+use Rattle.std.specs.Prelude.{ℕ, Bool, true, false, cond, not, ◌||◌, List, Some, None, Ok, Err, Option, Result, ◌==◌, nat_le, nat_lt, ok_or}
 use Rattle.common.specs.Limits.{epochs, rounds}
-use Rattle.common.specs.Refusals.{declined}
+use Rattle.common.specs.Refusals.{declined, number_of}
 use Rattle.common.specs.declared.refusal.Refusal.TheVariants.{Table, Sender, Range, Entry, Past, Future}
 use Rattle.theory.specs.Statement as theory
 use Rattle.theory.specs.Statement.{Stmt}
@@ -32,10 +32,13 @@ timely_of m e k =
     (cond (nat_lt e m.epoch) (declined Past)
     (cond (nat_lt m.epoch e) (declined Future) (Ok tt)))
 
--- a vote in round k of epoch e, with what its operand is
-abbrev pub vote_of : {A : Type 0} → Replica → ℕ → ℕ → Option A → Result A ℕ
-vote_of m e k None = declined Range
-vote_of m e k (Some v) = and_then (timely_of m e k) (λ _. Ok v)
+-- what an operand is, in range only if it is something
+abbrev pub operand_of : {A : Type 0} → Option A → Result A ℕ
+operand_of o = ok_or o (number_of Range)
+
+-- a vote in round k of epoch e, with its operand
+abbrev pub vote_of : {A : Type 0} → Replica → ℕ → ℕ → Result A ℕ → Result A ℕ
+vote_of m e k operand = and_then operand (λ v. and_then (timely_of m e k) (λ _. Ok v))
 
 -- the statement that sender j means, in range, of the kind and of the current epoch; a send is for j's own queue
 abbrev pub admit_of : (List ℕ → Bool) → Replica → ℕ → Message → Result (Stmt (List ℕ)) ℕ
@@ -43,10 +46,10 @@ admit_of valid m j (send s x) = and_then (item_of valid m j s x) (λ y. Ok (theo
 admit_of valid m j (echo q s x) = and_then (item_of valid m q s x) (λ y. Ok (theory.echo q s y))
 admit_of valid m j (ready q s x) = and_then (item_of valid m q s x) (λ y. Ok (theory.ready q s y))
 admit_of valid m j (have q s x) = and_then (item_of valid m q s x) (λ y. Ok (theory.have q s y))
-admit_of valid m j (value e k b) = and_then (vote_of m e k (bit_numbered b)) (λ v. Ok (theory.value e k v))
-admit_of valid m j (seen e k b) = and_then (vote_of m e k (bit_numbered b)) (λ v. Ok (theory.seen e k v))
-admit_of valid m j (confirm e k u) = and_then (vote_of m e k (set_numbered u)) (λ v. Ok (theory.confirm e k v))
-admit_of valid m j (finish e b) = and_then (vote_of m e 0 (bit_numbered b)) (λ v. Ok (theory.finish e v))
+admit_of valid m j (value e k b) = and_then (vote_of m e k (operand_of (bit_numbered b))) (λ v. Ok (theory.value e k v))
+admit_of valid m j (seen e k b) = and_then (vote_of m e k (operand_of (bit_numbered b))) (λ v. Ok (theory.seen e k v))
+admit_of valid m j (confirm e k u) = and_then (vote_of m e k (operand_of (set_numbered u))) (λ v. Ok (theory.confirm e k v))
+admit_of valid m j (finish e b) = and_then (vote_of m e 0 (operand_of (bit_numbered b))) (λ v. Ok (theory.finish e v))
 
 -- the statement that bytes from sender j are, if its cell is free
 abbrev pub judge_of : ℕ → (List ℕ → Bool) → Replica → Store → ℕ → List ℕ → Result (Stmt (List ℕ)) ℕ

@@ -44,7 +44,7 @@ pub fn admit<K: Entry>(
             Ok(Claim::Seen { epoch, round, bit })
         }
         Statement::Confirm { epoch, round, set } => {
-            let set = vote(replica, epoch, round, Bits::try_from(set).ok())?;
+            let set = vote(replica, epoch, round, Bits::try_from(set))?;
             Ok(Claim::Confirm { epoch, round, set })
         }
         Statement::Finish { epoch, bit } => {

@@ -8,19 +8,14 @@ ghost use Rattle.intake.specs.Meaning.{Hears};
 use crate::admitting::admit;
 use common::Refusal;
 use entry::Entry;
-use replica::{Claim, Replica, Tables};
+use replica::{Claim, Fitted, Replica, Tables};
 use wire::parse;
 
 // What the bytes from a sender state, if that is accepted.
-fn judge<K: Entry>(
-    replica: &Replica,
-    tables: &Tables<'_, K>,
-    sender: u8,
-    s: &[u8],
-) -> Result<Claim<K>, Refusal>
-    ensures { answered (claim_of K.bytes) result ≡ judge_of K.WIDTH K.valid replica.now (store K.bytes tables.now) sender s.now }
+fn judge<K: Entry>(lent: &Fitted<'_, '_, K>, sender: u8, s: &[u8]) -> Result<Claim<K>, Refusal>
+    ensures { answered (claim_of K.bytes) result ≡ judge_of K.WIDTH K.valid lent.now.replica.now (store K.bytes lent.now.tables.now) sender s.now }
 {
-    let lent = replica.fitted(tables)?;
+    let replica = lent.replica;
     if sender >= replica.set.n || sender == replica.set.me {
         return Err(Refusal::Sender);
     }
@@ -41,7 +36,8 @@ pub fn hear<K: Entry>(
     ensures value { (numbered result, replica.new, store K.bytes tables.new) ≡ hear_of K.WIDTH K.valid replica.old (store K.bytes tables.old) sender s.now }
     ensures hears { Hears K.WIDTH K.valid replica.old (store K.bytes tables.old) sender s.now (numbered result) replica.new (store K.bytes tables.new) }
 {
-    let claim = judge(replica, tables, sender, s)?;
+    let lent = replica.fitted(tables)?;
+    let claim = judge(&lent, sender, s)?;
     replica.hold(tables, sender, claim);
     Ok(())
 }

@@ -1,7 +1,7 @@
-// Operands of a statement: in range, and what they are.
+// Operands of a statement: in range, and what they are. A range is a comparison with its limit, as its definition says.
 ghost use Rattle.std.specs.Prelude.{◌≡◌};
 ghost use Rattle.common.specs.Refusals.{answered, numbered};
-ghost use Rattle.intake.specs.Hearing.{bit_numbered, item_of, timely_of, vote_of};
+ghost use Rattle.intake.specs.Hearing.{bit_numbered, operand_of, item_of, timely_of, vote_of};
 
 use common::{EPOCHS, ROUNDS, Refusal};
 use entry::Entry;
@@ -9,13 +9,13 @@ use replica::Replica;
 use std::cmp::Ordering;
 
 // The bit that an operand is.
-pub fn bit_read(b: u8) -> Option<bool>
-    ensures { result ≡ bit_numbered b }
+pub fn bit_read(b: u8) -> Result<bool, Refusal>
+    ensures { numbered result ≡ operand_of (bit_numbered b) }
 {
     match b {
-        0 => Some(false),
-        1 => Some(true),
-        _ => None,
+        0 => Ok(false),
+        1 => Ok(true),
+        _ => Err(Refusal::Range),
     }
 }
 
@@ -43,16 +43,16 @@ pub fn timely(replica: &Replica, epoch: u16, round: u8) -> Result<(), Refusal>
     }
 }
 
-// What a vote's operand is, where it is one and the vote is for a round of the current epoch.
+// A vote's operand, where it was one and the vote is for a round of the current epoch.
 pub fn vote<T: Copy>(
     replica: &Replica,
     epoch: u16,
     round: u8,
-    operand: Option<T>,
+    operand: Result<T, Refusal>,
 ) -> Result<T, Refusal>
-    ensures { numbered result ≡ vote_of replica.now epoch round operand }
+    ensures { numbered result ≡ vote_of replica.now epoch round (numbered operand) }
 {
-    let operand = operand.ok_or(Refusal::Range)?;
+    let operand = operand?;
     timely(replica, epoch, round)?;
     Ok(operand)
 }

@@ -1,5 +1,5 @@
 -- One cell of a table or of the votes is filled: what is then seen there, and that every other cell is seen as before.
-use Rattle.std.proofs.Common.{◌≡◌, ℕ, ◌*◌, ◌/◌, ◌%◌, ◌<◌, ◌≤◌, Bool, true, false, ◌&&◌, eqb, ltb, ◌≢◌, ◌⊎◌, List, length, get_or, Some, None, Option, sym, refl, ap, ◌∙◌, inl, inr, arith, get_or-set_other, get_or-set_same}
+use Rattle.std.proofs.Common.{◌≡◌, ℕ, ◌*◌, ◌/◌, ◌%◌, ◌<◌, ◌≤◌, Bool, true, false, cond, ◌&&◌, eqb, ltb, ◌≢◌, ◌⊎◌, List, length, get_or, Some, None, Option, sym, refl, ap, ◌∙◌, inl, inr, arith, get_or-set_other, get_or-set_same}
 use Rattle.std.specs.Option.{option_map}
 use Rattle.std.proofs.lemmas.List.{get_or_past, length-set}
 use Rattle.std.proofs.lemmas.Nat.{div-mul-add, mod-mul-add}
@@ -14,9 +14,9 @@ use Rattle.replica.specs.declared.state.Replica.{Replica}
 use Rattle.replica.specs.View.{held, row_cell, vote_cell}
 use Rattle.replica.specs.Holding.{entered, round_marked, with_votes}
 
-pub held_same : {A : Type 0} (b : Bool) (o u : Option A) → (b ≡ true → o ≡ u) → held b o ≡ held b u
-held_same true o u h = h refl
-held_same false o u h = refl
+pub cond_same : {A : Type 0} (b : Bool) (x y z : A) → (b ≡ true → x ≡ y) → cond b x z ≡ cond b y z
+cond_same true x y z h = h refl
+cond_same false x y z h = refl
 
 -- no two slots share a place, and no two cells of a row
 slot_apart : (w q s a b : ℕ) → s < w → b < w → slot_of w q s ≡ slot_of w a b → (q ≡ a) × (s ≡ b)
@@ -39,7 +39,7 @@ module _ (w : ℕ) (cells : Cells) (j s : ℕ) (x : List ℕ) (st : ℕ → List
   send_own l = rw (lt-ltb j n lj, lt-ltb s w ls, get_or-set_same cells (slot_of w j s) (Some x) None l)
 
   pub send_other : (i b : ℕ) → ((i ≡ j) × (b ≡ s) → ⊥) → send_cell (entered cells (slot_of w j s) x) i b ≡ send_cell cells i b
-  send_other i b ne = held_same _ _ _ (λ g.
+  send_other i b ne = cond_same _ _ _ None (λ g.
       let p = and_parts _ _ g in
       let apart : slot_of w i b ≢ slot_of w j s = λ e. ne (slot_apart w i b j s (ltb-true b w p.1) ls e) in
       ap (option_map (st b)) (get_or-set_other cells (slot_of w j s) (slot_of w i b) (Some x) None apart))
@@ -51,7 +51,7 @@ module _ (n w : ℕ) (cells : Cells) (j q s : ℕ) (x : List ℕ) (st : ℕ → 
       rw (lt-ltb j n lj, lt-ltb q n lq, lt-ltb s w ls, get_or-set_same cells (place_of n w q s j) (Some x) None within)
 
   pub row_other : (i a b : ℕ) → ((i ≡ j) × (a ≡ q) × (b ≡ s) → ⊥) → row_cell n w (entered cells (place_of n w q s j) x) (st a b) a b i ≡ row_cell n w cells (st a b) a b i
-  row_other i a b ne = held_same _ _ _ (λ g.
+  row_other i a b ne = cond_same _ _ _ None (λ g.
       let p = and_parts _ _ g in let r = and_parts _ _ p.1 in
       let apart : place_of n w a b i ≢ place_of n w q s j = λ e. let k = place_apart n w a b i q s j (ltb-true b w r.1) ls (ltb-true i n p.0) lj e in ne (k.2, k.0, k.1) in
       ap (option_map (st a b)) (get_or-set_other cells (place_of n w q s j) (place_of n w a b i) (Some x) None apart))
@@ -65,7 +65,7 @@ module _ {A : Type 0} (m : Replica) (k : ℕ) (f : Round → Round) (read : Roun
   vote_own e j x l g h = rw (g, get_or-set_same table k (f (get_or table k no_round)) no_round l, h)
 
   pub vote_other : (e a i : ℕ) → (e ≡ m.epoch → a ≡ k → (r : Round) → read (f r) ≡ read r) → vote_cell (with_votes m (round_marked m.votes k f)) read st e a i ≡ vote_cell m read st e a i
-  vote_other e a i stays = held_same _ _ _ (λ g.
+  vote_other e a i stays = cond_same _ _ _ None (λ g.
       let p = and_parts (ltb e epochs) _ (and_parts (ltb a rounds) _ (and_parts (ltb i m.set.n) _ g).1).1 in
       ap (option_map st) (at (eqb-true e m.epoch p.1) (cases_eq a k)))
     where

@@ -1,5 +1,5 @@
 -- To hold a statement in its cell is, in the theory's words, to hear it.
-use Rattle.std.proofs.Common.{◌≡◌, ℕ, ◌*◌, ◌<◌, ◌≤◌, Bool, true, false, cond, not, ◌&&◌, eqb, ltb, ◌⊎◌, List, length, get_or, Some, None, Option, sym, refl, ap, ◌∙◌, subst, inl, inr, arith, rules}
+use Rattle.std.proofs.Common.{◌≡◌, ℕ, ◌*◌, ◌<◌, ◌≤◌, Bool, true, false, not, ◌&&◌, eqb, ltb, ◌⊎◌, List, length, get_or, Some, None, Option, sym, refl, ap, ◌∙◌, subst, inl, inr, arith, rules}
 use Rattle.std.specs.Option.{option_map}
 use Rattle.std.proofs.lemmas.List.{length-set}
 use Rattle.std.proofs.lemmas.Nat.{mul-add-lt}
@@ -20,7 +20,7 @@ use Rattle.replica.specs.declared.state.Replica.{Replica}
 use Rattle.replica.specs.Store.{Store, fits}
 use Rattle.replica.specs.View.{held, row_cell, value_in, vote_cell, view, plan, box}
 use Rattle.replica.specs.Holding.{Heard, Sized, values_marked, seens_marked, confirms_marked, entered, held_of}
-use Rattle.replica.proofs.Placing.{send_own, send_other, row_own, row_other, vote_own, vote_other}
+use Rattle.replica.proofs.Placing.{send_own, send_other, row_own, row_other, vote_own, vote_other, cond_same}
 
 -- the tables are long enough
 pub record Long (n w : ℕ) (t : Store) : Type 0 where
@@ -63,10 +63,6 @@ slot_within n w q s a b = omega (arith, mul-add-lt q w s n a b)
 
 in_round : (k : ℕ) (table : List Round) → length table ≡ rounds → ltb k rounds ≡ true → k < length table
 in_round k table e r = omega (arith, e, ltb-true k rounds r)
-
-cond_same : {A : Type 0} (b : Bool) (x y z : A) → (b ≡ true → x ≡ y) → cond b x z ≡ cond b y z
-cond_same true x y z h = h refl
-cond_same false x y z h = refl
 
 -- a bit that was not marked, or a sender that did not mark
 value_other : (p : Marks) (v : Bool) (j i : ℕ) (u : Bool) → ((i ≡ j) × (u ≡ v) → ⊥) → marks (mark p v j) u i ≡ marks p u i
@@ -153,6 +149,7 @@ module _ (m : Replica) (t : Store) (j : ℕ) (sized : Sized m) (lent : fits m.se
   at_vote : (at : ℕ → ℕ → Cell) (e k : ℕ) → (ltb k rounds && (ltb e epochs && eqb e m.epoch)) ≡ true → (c : Cell) (a b : ℕ) → c ≡ at a b → a ≡ m.epoch → b ≡ k → c ≡ at e k
   at_vote at e k r c a b h now here = h ∙ (λ z. at ((now ∙ sym (current e (and_parts (ltb k rounds) _ r).1)) z) (here z))
 
+  -- what is held elsewhere; each vote's line says what it reads, and a lemma over them would take it again
   other : (st : Stmt (List ℕ)) → ranged (plan m) (box m t) st ≡ true → Else st
   other (sends s x) r i c ne = by_letter (λ d. view m (held_of m t j (sends s x)).1 i d ≡ view m t i d) c
       (λ b e. send_other m.set.w t.sends j s x sends m.set.n lj (ltb-true s _ r) i b (λ p. ne (p.0, e ∙ ap at_send p.1)))

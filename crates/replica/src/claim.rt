@@ -1,7 +1,7 @@
 use votes::Bits;
 
 // A statement with its entry read and its bit or set known: what a cell can hold. Queue and slot
-// stand apart, as in the format.
+// stand apart, as in the format: a struct of the two would be taken apart again at each cell and each byte.
 #[derive(Clone, Copy)]
 pub enum Claim<K> {
     Send { slot: u8, item: K },

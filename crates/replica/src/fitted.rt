@@ -5,7 +5,7 @@ use crate::lent::Tables;
 use crate::state::Replica;
 use entry::Entry;
 
-// A replica and tables that are long enough for its set.
+// A replica and tables that are long enough for its set. It has no `Model`, as `Tables` has none.
 #[derive(Drop)]
 pub struct Fitted<'a, 't, K: Entry> {
     pub replica: &'a Replica,

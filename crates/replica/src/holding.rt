@@ -41,10 +41,8 @@ impl<K: Entry> Fitted<'_, '_, K> {
                 settle(tables.haves.get(grid.place(queue, slot, sender)), item)
             }
             Claim::Value { round, bit, .. } => {
-                if rounds[usize::from(round)].values.has(bit, sender) {
-                    return Err(Refusal::Held);
-                }
-                Ok(())
+                let held = rounds[usize::from(round)].values.has(bit, sender);
+                settle(held.then_some(bit), bit)
             }
             Claim::Seen { round, bit, .. } => {
                 settle(rounds[usize::from(round)].seens.bit(sender), bit)
@@ -59,7 +57,8 @@ impl<K: Entry> Fitted<'_, '_, K> {
 
 impl Replica {
     // Holds a sender's statement in its cell. Replica and tables are apart, since a struct of the two `&mut` loses
-    // the link to what they are at the end.
+    // the link to what they are at the end. The tables' arms are answered as a whole: no search finds `heard` there
+    // without their `value`.
     #[tactic(auto, using(crate::proofs::Putting::heard_by))]
     pub fn hold<K: Entry>(&mut self, tables: &mut Tables<'_, K>, sender: u8, claim: Claim<K>)
         requires lent { fits self.old.set.n self.old.set.w (store K.bytes tables.old) ≡ true }

@@ -1,6 +1,7 @@
 use cells::Witness;
 
-// A page of the book. Queue and slot stand apart, as in the format.
+// A page of the book. Queue and slot stand apart, as in the format: a struct of the two would be taken apart again at
+// each cell and each byte.
 #[derive(Clone, Copy, PartialEq, Eq)]
 pub struct Page<K> {
     pub epoch: u16,
@@ -9,7 +10,8 @@ pub struct Page<K> {
     pub item: K,
 }
 
-// The memory that is lent at each call.
+// The memory that is lent at each call. It has no `Model`: calls lend single tables on by field, and all promises
+// speak of its bytes by `store`.
 #[derive(Drop)]
 pub struct Tables<'a, K> {
     // By sender and slot.

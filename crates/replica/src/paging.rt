@@ -20,6 +20,7 @@ impl Replica {
         ensures reads { Reads self.now (store K.bytes tables.now) }
     {
         let lent = self.fitted(tables)?;
+        // Apart from `get`: over `book_cells`, with `flatten`, what it answers was tried and not proved.
         if place >= usize::from(self.pages) {
             return Err(Refusal::Page);
         }

@@ -5,7 +5,8 @@ use votes::Votes;
 #[derive(Clone, Copy, PartialEq, Eq)]
 pub enum Stage {
     Unopened,
-    // In a round; the last one closes once.
+    // In a round; the last one closes once. `closed` counts there only, as in the theory's stage: a case of its own would
+    // double each match.
     Open { round: u8, closed: bool },
     // Decided with 1, and its page is not written yet.
     Awaiting,
@@ -22,6 +23,6 @@ pub struct Replica {
     pub past: [Option<bool>; 256],
     // The first slot of each queue that may still be written.
     pub heads: [u8; 16],
-    // How many pages the book has.
+    // How many pages the book has: tables are lent anew at each call, so the replica keeps their used length.
     pub pages: u16,
 }
