@@ -1,5 +1,6 @@
 -- Each small step on a whole replica is the theory's, and leaves a whole replica.
 use Rattle.std.proofs.Common.{◌≡◌, ℕ, zero, suc, ◌+◌, ◌*◌, ◌<◌, ◌≤◌, Bool, ◌⊎◌, List, [], ◌∷◌, ◌++◌, length, get_or, take, set, Some, sym, refl, ap, ◌∙◌, subst, inl, inr, arith, length-append, get_or-set_other, get_or-set_same}
+use Rattle.std.proofs.Math.Nat.{min-eq_left, mul-le-mul}
 use Rattle.std.proofs.lemmas.List.{length-set}
 use Rattle.std.proofs.lemmas.Bool.{cases_eq}
 use Rattle.common.specs.Limits.{epochs, rounds}
@@ -12,7 +13,7 @@ use Rattle.replica.specs.Store.{Store, fits}
 use Rattle.replica.specs.View.{leading, book_of}
 use Rattle.replica.specs.Holding.{Sized, with_votes, held_of}
 use Rattle.replica.proofs.Putting.{lengths, sized_held}
-use Rattle.turns.specs.Stepping.{with_stage, left_of, filed_of}
+use Rattle.turns.specs.Stepping.{one_more, with_stage, left_of, filed_of}
 use Rattle.turns.specs.Ties.{total, Whole}
 use Rattle.turns.proofs.Leaving.{lead_more}
 
@@ -100,8 +101,15 @@ module _ (m : Replica) (t : Store) where
       free_cell : m.pages < length t.pages
       free_cell = omega (arith, W.room, total_less m.set.n m.set.w m.heads W.low p.queue x.queue (omega (arith, x.above, x.below)), (lengths m.set.n m.set.w t W.lent).pages)
 
+      -- the count does not stop here
+      counted : one_more m.pages ≡ m.pages + 1
+      counted = min-eq_left (omega (arith, W.room, total_most m.set.n m.set.w m.heads W.low, size))
+        where
+          size : m.set.n * m.set.w ≤ 256
+          size = mul-le-mul m.set.most m.set.slots
+
       pub book_more : book_of (filed_of (Some p) m t).0 (filed_of (Some p) m t).1 ≡ book_of m t ++ (p ∷ [])
-      book_more = lead_more t.pages m.pages p W.filled free_cell
+      book_more = ap (λ k. leading (take k (set t.pages m.pages (Some p)))) counted ∙ lead_more t.pages m.pages p W.filled free_cell
 
       pub page_whole : Whole (filed_of (Some p) m t).0 (filed_of (Some p) m t).1
       page_whole = record {
@@ -111,9 +119,9 @@ module _ (m : Replica) (t : Store) where
         lent = simp length-set W.lent;
         week = W.week;
         round = W.round;
-        filled = ap length book_more ∙ length-append (book_of m t) (p ∷ []) ∙ ap (λ k. k + 1) W.filled;
+        filled = ap length book_more ∙ length-append (book_of m t) (p ∷ []) ∙ ap (λ k. k + 1) W.filled ∙ sym counted;
         low = λ q. at q (cases_eq q p.queue);
-        room = omega (arith, W.room, x.above, total_set m.set.n m.heads p.queue (p.slot + 1) x.queue in_heads);
+        room = omega (arith, counted, W.room, x.above, total_set m.set.n m.heads p.queue (p.slot + 1) x.queue in_heads);
       }
         where
           at : (q : ℕ) → (q ≡ p.queue) ⊎ (q ≡ p.queue → ⊥) → get_or (set m.heads p.queue (p.slot + 1)) q 0 ≤ m.set.w

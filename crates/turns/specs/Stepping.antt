@@ -1,5 +1,5 @@
 -- The theory's small steps on a replica and its tables, cell by cell.
-use Rattle.std.specs.Prelude.{ℕ, ◌+◌, false, List, [], ◌∷◌, length, set, Some, None, Option}
+use Rattle.std.specs.Prelude.{ℕ, ◌+◌, min, false, List, [], ◌∷◌, length, set, Some, None, Option}
 use Rattle.std.specs.List.{slice_get}
 use Rattle.theory.specs.Statement.{value}
 use Rattle.theory.specs.Book.{Page}
@@ -32,9 +32,13 @@ left_of m = record {
   pages = m.pages;
 }
 
+-- how many pages there are with one more; the count stops where it has no more room, which no set's book comes to
+abbrev pub one_more : ℕ → ℕ
+one_more pages = min (pages + 1) 65535
+
 -- a page is written behind the others, and the head of its queue is its slot plus 1
 abbrev pub with_page : Replica → Page (List ℕ) → Replica
-with_page m p = record { set = m.set; epoch = m.epoch; stage = m.stage; votes = m.votes; past = m.past; heads = set m.heads p.queue (p.slot + 1); pages = m.pages + 1 }
+with_page m p = record { set = m.set; epoch = m.epoch; stage = m.stage; votes = m.votes; past = m.past; heads = set m.heads p.queue (p.slot + 1); pages = one_more m.pages }
 
 abbrev pub filed_of : Option (Page (List ℕ)) → Replica → Store → Replica × Store
 filed_of None m t = (m, t)
