@@ -1,16 +1,27 @@
 #!/usr/bin/env python3
 # Counts the places that docs/DESIGN-PASS.md speaks of: `python3 tools/places.py` prints a count for each point,
-# `python3 tools/places.py POINT` its places. It reads the files below crates/ as they stand.
+# `python3 tools/places.py POINT` its places. It reads the files below crates/ as they stand, of the crates that the page
+# speaks of; with `--all` those that were written later too.
 import collections
 import glob
 import re
 import sys
 
-TESTS = ("checks", "trials")
+TESTS = ("checks", "trials", "weeks")
+
+# The crates that were written behind the pass.
+LATER = ("dues", "moves", "serving", "weeks")
+
+ALL = "--all" in sys.argv
+
+
+def files(pattern):
+    found = sorted(glob.glob(pattern, recursive=True))
+    return [path for path in found if ALL or path.split("/")[1] not in LATER]
 
 
 def sources():
-    for path in sorted(glob.glob("crates/*/src/*.rt")):
+    for path in files("crates/*/src/*.rt"):
         yield path, open(path).read()
 
 
@@ -67,7 +78,7 @@ def repeated():
 
 def answers():
     found = []
-    for path in sorted(glob.glob("crates/*/proofs/**/*.antt", recursive=True)):
+    for path in files("crates/*/proofs/**/*.antt"):
         for at, line in enumerate(open(path).read().split("\n"), 1):
             if re.match(r"(abbrev )?pub [^ ]+ : goal\.", line):
                 found.append(f"{path}:{at}: {line}")
@@ -76,7 +87,7 @@ def answers():
 
 def lemmas():
     found = []
-    for path in sorted(glob.glob("crates/*/proofs/*.antt")):
+    for path in files("crates/*/proofs/*.antt"):
         for at, line in enumerate(open(path).read().split("\n"), 1):
             if re.match(r" *(abbrev )?(pub )?(abbrev |unfoldable )?[a-zA-Z_][^ ]* : ", line):
                 found.append(f"{path}:{at}: {line.strip()}")
@@ -102,7 +113,7 @@ POINTS = {
 }
 
 if __name__ == "__main__":
-    wanted = sys.argv[1:]
+    wanted = [word for word in sys.argv[1:] if word != "--all"]
     for name, places in POINTS.items():
         found = places()
         if not wanted:

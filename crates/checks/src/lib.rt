@@ -1,5 +1,6 @@
 // The worked examples that are proved, as one table, and the tests that are run: each range's edges and
 // what lies just past them, each refusal, frames cut at each byte.
+// `examples_stand` does nothing: a contract stands on it, and a `()` would be no plainer than the 0 that it answers.
 // Nothing here is used by another crate but the memory for the tests of a replica, which `trials` lends too.
 #![tactic(auto)]
 

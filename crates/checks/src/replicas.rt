@@ -1,4 +1,4 @@
-// Make, and page.
+// Make, and page. Some tests stand in `trials` too, at other sets: tests stay, and what they stand on is one.
 use crate::memory::{
     ALL, Cells, Lengths, READING, asked, begin, begins, just_fits, lacking, makes, read,
 };

@@ -23,7 +23,8 @@ const TABLE: [(u8, u8); 13] = [
     (5, 11),
 ];
 
-// The faults f and the echo quorum Q of a set of n replicas.
+// The faults f and the echo quorum Q of a set of n replicas. With `contains` for the two comparisons the proof does not
+// close (tried).
 pub fn quorum(n: u8) -> Result<(u8, u8), Refusal>
     ensures value { numbered result ≡ quorum_of n }
     ensures sound { IfOk result (Sound n) }

@@ -44,6 +44,7 @@ impl From<Refusal> for u8 {
     ghost from_gives = { λ refusal n. n ≡ number_of refusal };
 
     fn from(refusal: Refusal) -> u8 {
+        // A case's number, which `as` alone gives.
         refusal as u8
     }
 }

@@ -64,6 +64,7 @@ pub trait Entry: Copy + Eq {
 pub fn reread<K: Entry>(x: &K) -> Option<K>
     ensures { result ≡ Some x.now }
 {
+    // As wide as the widest kind: there is no heap here.
     let mut bytes = [0; 32];
     x.write(&mut bytes);
     K::read(&bytes[..K::WIDTH])

@@ -19,6 +19,7 @@ impl From<Quantity> for u8 {
     ghost from_gives = { λ quantity n. n ≡ quantity_of quantity };
 
     fn from(quantity: Quantity) -> u8 {
+        // A case's number, which `as` alone gives.
         quantity as u8
     }
 }

@@ -11,7 +11,8 @@ use entry::Entry;
 use replica::{Claim, Fitted, Replica, Tables};
 use wire::parse;
 
-// What the bytes from a sender state, if that is accepted.
+// What the bytes from a sender state, if that is accepted. Like `offer` it is a list of checks; one function for both would
+// be no plainer.
 fn judge<K: Entry>(lent: &Fitted<'_, '_, K>, sender: u8, s: &[u8]) -> Result<Claim<K>, Refusal>
     ensures { answered (claim_of K.bytes) result ≡ judge_of K.WIDTH K.valid lent.now.replica.now (store K.bytes lent.now.tables.now) sender s.now }
 {

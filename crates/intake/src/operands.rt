@@ -8,7 +8,7 @@ use entry::Entry;
 use replica::Replica;
 use std::cmp::Ordering;
 
-// The bit that an operand is.
+// The bit that an operand is; a type of our own for it, to have a conversion, is no plainer.
 pub fn bit_read(b: u8) -> Result<bool, Refusal>
     ensures { numbered result ≡ operand_of (bit_numbered b) }
 {

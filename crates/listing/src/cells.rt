@@ -5,7 +5,7 @@ ghost use Rattle.listing.specs.Rows.{text_of, following};
 use itoa::{Buffer, Integer};
 use std::alloc::AllocError;
 
-// A number in decimal.
+// A number in decimal. The numbers of a file go to a sink and cannot fail; one text for both is no plainer.
 pub fn push_number<I: Integer>(out: &mut Vec<u8>, n: I) -> Result<(), AllocError>
     ensures { OnOk result (out.new.items ≡ out.old.items ++ I.text n) }
 {

@@ -1,6 +1,7 @@
 // The promises: what honest replicas of a set keep to, after every list of submit, open, hear and turn. Here live
 // runs of calls over the definitions that the calls' own contracts cite, and the theorem, on a contract.
-// No code of a replica is here, and nothing of how the theory proves it.
+// No code of a replica is here, and nothing of how the theory proves it. The functions do nothing: a contract stands on each,
+// and a `()` would be no plainer than the 0 that they answer.
 #![tactic(auto)]
 
 ghost use Rattle.promises.specs.Promised.{Promise};

@@ -7,7 +7,8 @@ ghost use Rattle.replica.specs.View.{leading, same_bytes};
 use crate::lent::Page;
 use entry::Entry;
 
-// Whether the entry stands on a page, before the first empty place.
+// Whether the entry stands on a page, before the first empty place. As `map_while` and `any` it was tried: the check does
+// not find what they answer.
 pub fn in_book<K: Entry>(pages: &[Option<Page<K>>], x: &K) -> bool
     ensures { result ≡ stands_in_book same_bytes (leading (map (option_map (paged K.bytes)) pages.now)) (K.bytes x.now) }
 {

@@ -56,7 +56,8 @@ impl<K: Entry> Fitted<'_, '_, K> {
 }
 
 impl Replica {
-    // Holds a sender's statement in its cell. Replica and tables are apart, since a struct of the two `&mut` loses
+    // Holds a sender's statement in its cell, in eight arms as `vacant` has: one function that picks the table would be two
+    // again, by `&` and by `&mut`. Replica and tables are apart, since a struct of the two `&mut` loses
     // the link to what they are at the end. The tables' arms are answered as a whole: no search finds `heard` there
     // without their `value`.
     #[tactic(auto, using(crate::proofs::Putting::heard_by))]

@@ -16,7 +16,7 @@ pub struct Page<K> {
 pub struct Tables<'a, K> {
     // By sender and slot.
     pub sends: Witness<'a, K>,
-    // By queue, slot and sender.
+    // By queue, slot and sender, in three tables, since each is lent by the caller.
     pub echoes: Witness<'a, K>,
     pub readies: Witness<'a, K>,
     pub haves: Witness<'a, K>,

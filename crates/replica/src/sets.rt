@@ -15,7 +15,7 @@ impl Set {
         if me >= n {
             return Err(Refusal::Own);
         }
-        if w < 1 || w > MAX_SLOTS {
+        if !(1..=MAX_SLOTS).contains(&w) {
             return Err(Refusal::Slots);
         }
         Ok(Set { n, w, f, q, me })

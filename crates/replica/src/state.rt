@@ -12,7 +12,7 @@ pub enum Stage {
     Awaiting,
 }
 
-// All that a replica holds besides its lent tables.
+// All that a replica holds besides its lent tables, in arrays of fixed size: there is no heap here.
 #[derive(Clone, Copy, PartialEq, Eq)]
 pub struct Replica {
     pub set: Set,

@@ -74,6 +74,7 @@ pub fn write<K: Entry>(claim: &Claim<K>, out: &mut [u8]) -> Result<usize, Refusa
     requires { unfit K.WIDTH (spoken (claim_of K.bytes claim.now)) ≡ None }
     ensures { (numbered result, out.new) ≡ placed None (spelled (claim_of K.bytes claim.now)) out.old }
 {
+    // As wide as the widest kind: there is no heap here.
     let mut item = [0; 32];
     put_item(claim, &mut item);
     worded(claim, &item[0..K::WIDTH]).write::<K>(out)

@@ -138,7 +138,7 @@ impl<K: Tried> State<K> {
             .wrapping_mul(usize::from(n))
             .wrapping_add(usize::from(sender));
         let cells = &mut self.cells;
-        match letter as char {
+        match char::from(letter) {
             'S' => put_at(&mut cells.sends, own, read(item)?),
             'E' => put_at(&mut cells.echoes, row, read(item)?),
             'R' => put_at(&mut cells.readies, row, read(item)?),
@@ -152,7 +152,7 @@ impl<K: Tried> State<K> {
     fn put(&mut self, sender: u8, head: [u8; 4], item: &[u8]) -> Result<(), Fail> {
         let [letter, _, b, c] = head;
         let votes = &mut self.replica.votes;
-        match letter as char {
+        match char::from(letter) {
             'V' => mark(&mut round_of(votes, b)?.values, sender, of_bit(c)),
             'A' => mark(&mut round_of(votes, b)?.seens, sender, of_bit(c)),
             'C' => mark(&mut round_of(votes, b)?.confirms, sender, c),
@@ -312,7 +312,7 @@ fn mark(marks: &mut Marks, sender: u8, set: u8) -> Result<(), Fail> {
 pub fn line(head: [u8; 4], item: &[u8]) -> Result<ArrayVec<u8, 16>, Fail> {
     let mut line = ArrayVec::new();
     let [letter, a, b, c] = head;
-    match letter as char {
+    match char::from(letter) {
         'S' => {
             line.try_extend_from_slice(&[letter, a])?;
             line.try_extend_from_slice(item)?;

@@ -8,7 +8,7 @@ pub struct Round {
     pub confirms: Marks,
 }
 
-// The votes of an epoch: by round, and the finish.
+// The votes of an epoch: by round, and the finish, in an array of fixed size: there is no heap here.
 #[derive(Clone, Copy, PartialEq, Eq, Debug)]
 pub struct Votes {
     pub rounds: [Round; 16],

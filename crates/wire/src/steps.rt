@@ -20,6 +20,7 @@ pub fn walk<K: Entry>(frame: &[u8]) -> Parts<'_, K>
     }
 }
 
+// This is the iterator, so it moves on by what it finds.
 impl<'a, K: Entry> Iterator for Parts<'a, K> {
     type Item = Result<Part<'a>, Fault>;
 
