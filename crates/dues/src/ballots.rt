@@ -1,6 +1,7 @@
 // The finishes of the current epoch.
 ghost use Rattle.std.specs.Prelude.{◌≡◌, ◌<◌};
 ghost use Rattle.std.specs.Option.{option_map};
+ghost use Rattle.common.specs.Limits.{epochs};
 ghost use Rattle.theory.specs.Statement.{finish};
 ghost use Rattle.theory.specs.Turns.{follow, decides};
 ghost use Rattle.replica.specs.Store.{Store};
@@ -12,7 +13,7 @@ use replica::{Bits, Replica};
 
 // Turn 4, Follow: the bit to finish with.
 pub fn follow_due(replica: &Replica) -> Option<bool>
-    requires week { replica.now.epoch < 256 }
+    requires week { replica.now.epoch < epochs }
     ensures { (t : Store) → option_map (finish replica.now.epoch) result ≡ follow (plan replica.now) (box replica.now t) }
 {
     let finish = replica.votes.finish;
@@ -29,7 +30,7 @@ pub fn follow_due(replica: &Replica) -> Option<bool>
 
 // Turn 5, Decide: the bit.
 pub fn decided(replica: &Replica) -> Option<bool>
-    requires week { replica.now.epoch < 256 }
+    requires week { replica.now.epoch < epochs }
     ensures { (t : Store) → result ≡ decides (plan replica.now) (box replica.now t) }
 {
     let finish = replica.votes.finish;

@@ -1,6 +1,7 @@
 // The rounds of the current epoch.
 ghost use Rattle.std.specs.Prelude.{◌≡◌, ◌+◌, ◌<◌, ◌≤◌, false, true, not, ◌&&◌, nat_le, IfSome, slice_index_or};
 ghost use Rattle.std.specs.Option.{option_map};
+ghost use Rattle.common.specs.Limits.{epochs, rounds};
 ghost use Rattle.theory.specs.Count.{count};
 ghost use Rattle.theory.specs.Statement.{value, seen, confirm};
 ghost use Rattle.theory.specs.Turns.{second, sees, confirms, closes, outcome, set_of, in_values};
@@ -26,7 +27,7 @@ pub struct Closing {
 // The votes of a round, which are none behind the last round.
 fn votes_in(replica: &Replica, round: u8) -> Round
     ensures value { result ≡ slice_index_or replica.now.votes.rounds round no_round }
-    ensures past { 16 ≤ round → result ≡ no_round }
+    ensures past { rounds ≤ round → result ≡ no_round }
 {
     let none = Marks::none();
     let rounds = &replica.votes.rounds;
@@ -39,8 +40,8 @@ fn votes_in(replica: &Replica, round: u8) -> Round
 
 // The bits in the values of a round.
 fn values_in(replica: &Replica, round: u8) -> Option<Bits>
-    requires week { replica.now.epoch < 256 }
-    ensures within { IfSome result (λ _. round < 16) }
+    requires week { replica.now.epoch < epochs }
+    ensures within { IfSome result (λ _. round < rounds) }
     ensures value { (t : Store) → option_map bits_of result ≡ set_of (in_values (plan replica.now) (box replica.now t) round false) (in_values (plan replica.now) (box replica.now t) round true) }
 {
     let set = &replica.set;
@@ -61,8 +62,8 @@ fn is_wanted(set: &Set, values: Marks, bit: bool) -> bool
 
 // The lowest such bit of a round.
 fn second_at(replica: &Replica, round: u8) -> Option<bool>
-    requires week { replica.now.epoch < 256 }
-    ensures within { IfSome result (λ _. round < 16) }
+    requires week { replica.now.epoch < epochs }
+    ensures within { IfSome result (λ _. round < rounds) }
     ensures value { (t : Store) → option_map (value replica.now.epoch round) result ≡ second_in (plan replica.now) (box replica.now t) round }
 {
     let set = &replica.set;
@@ -72,8 +73,8 @@ fn second_at(replica: &Replica, round: u8) -> Option<bool>
 
 // Turn 7, Second value: the round and the bit.
 pub fn second_due(replica: &Replica, round: u8) -> Option<(u8, bool)>
-    requires week { replica.now.epoch < 256 }
-    ensures within { IfSome result (λ p. p.0 < 16) }
+    requires week { replica.now.epoch < epochs }
+    ensures within { IfSome result (λ p. p.0 < rounds) }
     ensures value { (t : Store) → option_map (λ p. value replica.now.epoch p.0 p.1) result ≡ second (plan replica.now) (box replica.now t) round }
 {
     for k in 0..=round {
@@ -86,8 +87,8 @@ pub fn second_due(replica: &Replica, round: u8) -> Option<(u8, bool)>
 
 // Turn 8, Seen: the bit.
 pub fn seen_due(replica: &Replica, round: u8) -> Option<bool>
-    requires week { replica.now.epoch < 256 }
-    ensures within { IfSome result (λ _. round < 16) }
+    requires week { replica.now.epoch < epochs }
+    ensures within { IfSome result (λ _. round < rounds) }
     ensures value { (t : Store) → option_map (seen replica.now.epoch round) result ≡ sees (plan replica.now) (box replica.now t) round }
 {
     let votes = votes_in(replica, round);
@@ -99,8 +100,8 @@ pub fn seen_due(replica: &Replica, round: u8) -> Option<bool>
 
 // Turn 9, Confirm: the set.
 pub fn confirm_due(replica: &Replica, round: u8) -> Option<Bits>
-    requires week { replica.now.epoch < 256 }
-    ensures within { IfSome result (λ _. round < 16) }
+    requires week { replica.now.epoch < epochs }
+    ensures within { IfSome result (λ _. round < rounds) }
     ensures value { (t : Store) → option_map (λ u. confirm replica.now.epoch round (bits_of u)) result ≡ confirms (plan replica.now) (box replica.now t) round }
 {
     let set = &replica.set;
@@ -118,8 +119,8 @@ pub fn confirm_due(replica: &Replica, round: u8) -> Option<Bits>
 
 // Turn 10, Close, with the coin's toss for the round.
 pub fn close_due<C: Coin>(replica: &Replica, round: u8, coin: &mut C) -> Option<Closing>
-    requires week { replica.now.epoch < 256 }
-    ensures within { IfSome result (λ _. round < 16) }
+    requires week { replica.now.epoch < epochs }
+    ensures within { IfSome result (λ _. round < rounds) }
     ensures value { (t : Store) → option_map (λ c. (c.bit, c.finish)) result ≡ closes (plan replica.now) (box replica.now t) (C.meaning coin.old) round }
     ensures coin { C.meaning coin.new ≡ C.meaning coin.old }
 {

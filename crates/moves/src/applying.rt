@@ -1,5 +1,6 @@
 // Doing a move.
 ghost use Rattle.std.specs.Prelude.{◌≡◌, ◌<◌, true};
+ghost use Rattle.common.specs.Limits.{epochs, rounds};
 ghost use Rattle.theory.specs.Calls.{ranged, deciding, writing, closing as to_close};
 ghost use Rattle.replica.specs.Claims.{claim_of};
 ghost use Rattle.replica.specs.Holding.{held_of};
@@ -26,7 +27,7 @@ pub fn state<K: Entry>(replica: &mut Replica, tables: &mut Tables<'_, K>, claim:
 
 // Decides the epoch: bit 1 makes it await its page, bit 0 leaves it.
 fn decide<K: Entry>(replica: &mut Replica, tables: &Tables<'_, K>, bit: bool)
-    requires week { replica.old.epoch < 256 }
+    requires week { replica.old.epoch < epochs }
     ensures { (replica.new, store K.bytes tables.now) ≡ steps_of (deciding (plan replica.old) (box replica.old (store K.bytes tables.now)) bit) replica.old (store K.bytes tables.now) }
 {
     if bit {
@@ -39,8 +40,8 @@ fn decide<K: Entry>(replica: &mut Replica, tables: &Tables<'_, K>, bit: bool)
 // Closes a round: the next begins with a bit, or the last is closed for good; and a finish is stated, if there is to be one.
 fn close<K: Entry>(replica: &mut Replica, tables: &mut Tables<'_, K>, round: u8, closing: Closing)
     requires lent { fits replica.old.set.n replica.old.set.w (store K.bytes tables.old) ≡ true }
-    requires week { replica.old.epoch < 256 }
-    requires inside { round < 16 }
+    requires week { replica.old.epoch < epochs }
+    requires inside { round < rounds }
     ensures { (replica.new, store K.bytes tables.new) ≡ steps_of (to_close (plan replica.old) (box replica.old (store K.bytes tables.old)) round (closing.bit, closing.finish)) replica.old (store K.bytes tables.old) }
 {
     let epoch = replica.epoch;
@@ -95,7 +96,7 @@ pub fn apply<K: Entry>(replica: &mut Replica, tables: &mut Tables<'_, K>, next: 
 
 // Writes the page that the epoch awaits, and leaves it.
 fn write<K: Entry>(replica: &mut Replica, tables: &mut Tables<'_, K>, slot: u8, item: K)
-    requires week { replica.old.epoch < 256 }
+    requires week { replica.old.epoch < epochs }
     requires inside { slot < replica.old.set.w }
     ensures { (replica.new, store K.bytes tables.new) ≡ steps_of (writing (plan replica.old) (box replica.old (store K.bytes tables.old)) (slot, K.bytes item)) replica.old (store K.bytes tables.old) }
 {

@@ -1,6 +1,7 @@
 // Choosing a move: the first of the ten turns that applies.
 ghost use Rattle.std.specs.Prelude.{◌≡◌, ◌<◌, IfSome};
 ghost use Rattle.std.specs.Option.{option_map};
+ghost use Rattle.common.specs.Limits.{epochs};
 ghost use Rattle.theory.specs.Calls.{turn};
 ghost use Rattle.replica.specs.declared.state.Stage.TheVariants.{Open};
 ghost use Rattle.replica.specs.Store.{Store, store};
@@ -39,7 +40,7 @@ fn by_rounds<K: Entry, C: Coin>(
     closed: bool,
     coin: &mut C,
 ) -> Option<Move<K>>
-    requires week { replica.now.epoch < 256 }
+    requires week { replica.now.epoch < epochs }
     requires open { replica.now.stage ≡ Open round closed }
     ensures allowed { IfSome result (Allowed replica.now) }
     ensures value { (t : Store) → option_map (move_of K.bytes replica.now t) result ≡ by_rounds replica.now t (C.meaning coin.old) }

@@ -1,5 +1,6 @@
 // Leaving an epoch, and writing a page.
 ghost use Rattle.std.specs.Prelude.{◌≡◌, ◌<◌};
+ghost use Rattle.common.specs.Limits.{most_replicas, epochs};
 ghost use Rattle.replica.specs.Store.{store};
 ghost use Rattle.turns.specs.Stepping.{left_of, filed_of};
 ghost use Rattle.std.specs.Prelude.{Some, true};
@@ -11,7 +12,7 @@ use votes::Votes;
 
 // Leaves the epoch: its votes go, but the own finish is kept.
 pub fn leave(replica: &mut Replica)
-    requires week { replica.old.epoch < 256 }
+    requires week { replica.old.epoch < epochs }
     ensures { replica.new ≡ left_of replica.old }
 {
     let finish = replica.votes.finish.bit(replica.set.me);
@@ -23,7 +24,7 @@ pub fn leave(replica: &mut Replica)
 
 // Writes a page behind the others, and moves the head of its queue behind its slot.
 pub fn file<K: Entry>(replica: &mut Replica, tables: &mut Tables<'_, K>, page: Page<K>)
-    requires queue { page.queue < 16 }
+    requires queue { page.queue < most_replicas }
     requires slot { page.slot < 255 }
     ensures { (replica.new, store K.bytes tables.new) ≡ filed_of (Some (paged K.bytes page)) replica.old (store K.bytes tables.old) }
 {
