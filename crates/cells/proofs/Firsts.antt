@@ -1,14 +1,26 @@
--- What a search through a slice finds.
-use Rattle.std.proofs.Common.{◌≡◌, ℕ, ◌<◌, ◌+◌, List, length, get_or, Some, None, Option, MatchOption, IfSome, IsTrue, Iter, sym, ap, ◌∙◌, subst, arith}
+-- Searches from the lowest place up: step by step, and through a slice.
+use Rattle.std.proofs.Common.{◌≡◌, ℕ, ◌<◌, ◌+◌, List, length, get_or, Some, None, Option, MatchOption, IfSome, IsTrue, Iter, sym, refl, ap, ◌∙◌, subst, add-one, arith}
 use denote.Ref.{Bor}
 use denote.Param.Members.{Mut, Called}
 use Rattle.std.specs.Option.{option_map, IsSomeAnd}
 use Rattle.std.specs.Slice.Iter.{iter_rest, iter_steps}
 use Rattle.std.specs.Iterator.Runs.{SomeRun, Run, AllItemsGive, IsFirstToGive, CallKeepsClosure, ItemsMapTo}
 use Rattle.std.proofs.iter.runs.Sources.{iter_runs}
-use Rattle.theory.specs.Search.{first}
+use Rattle.theory.specs.Search.{or_else, first}
 use Rattle.theory.proofs.Books.{none≢some}
-use Rattle.theory.proofs.Searching.{first_empty, first_hit}
+use Rattle.theory.proofs.Searching.{first_empty, first_none, first_hit}
+
+module _ {A : Type 0} (g : ℕ → Option A) where
+  pub first_start : first 0 g ≡ None
+  unfolding first
+  first_start = refl
+
+  pub first_on : (i : ℕ) → first i g ≡ None → g i ≡ None → first (i + 1) g ≡ None
+  unfolding first or_else
+  first_on i e h = rw (add-one, e, h)
+
+  pub first_here : (n i : ℕ) (a : A) → i < n → first i g ≡ None → g i ≡ Some a → first n g ≡ Some a
+  first_here n i a l e h = first_hit n g a i l (h, first_none i g e)
 
 module _ {X : Type 0} (P : Bor X → Type 0) where
   if_item : (o : Option (Bor X)) (y : X) → option_map (λ x. x.now) o ≡ Some y → IfSome o P → (x : Bor X) × (x.now ≡ y) × P x

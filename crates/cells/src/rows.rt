@@ -1,5 +1,5 @@
 // Counts over one slot's row of cells, which has one cell for each sender.
-ghost use Rattle.std.specs.Prelude.{◌≡◌, map, Some, None};
+ghost use Rattle.std.specs.Prelude.{◌≡◌, map};
 ghost use Rattle.std.specs.Option.{option_map};
 ghost use Rattle.cells.specs.Rows.{holds, standing, lowest_in};
 

@@ -14,7 +14,7 @@ use Rattle.cells.proofs.Cellrows.{place_within}
 use Rattle.replica.specs.declared.state.Replica.{Replica}
 use Rattle.replica.specs.Store.{Store}
 use Rattle.replica.specs.View.{view, plan, box, bytes_same}
-use Rattle.dues.proofs.Telling.{by_told}
+use Rattle.replica.proofs.Vacating.{decided_by}
 
 first_same : {A : Type 0} (n : ℕ) (g h : ℕ → Option A) → ((i : ℕ) → i < n → g i ≡ h i) → first n g ≡ first n h
 unfolding first
@@ -54,7 +54,7 @@ entry_in st h (Some x) = h x
 -- whether a cell is told as an entry
 is_held : (f : List ℕ → Stmt (List ℕ)) → ((x y : List ℕ) → f x ≡ f y → x ≡ y) → (o : Option (List ℕ)) (x : List ℕ) → is (StmtEq bytes_same) (option_map f o) (f x) ≡ holds x o
 is_held f inj None x = refl
-is_held f inj (Some y) x = sym (by_told (bytes_eq y x) (StmtEq bytes_same (f y) (f x)) (λ e. ap f ((bytes_eq-Decides y x).0 e), λ e. (bytes_eq-Decides y x).1 (inj y x e)))
+is_held f inj (Some y) x = sym (decided_by (bytes_eq y x) (StmtEq bytes_same (f y) (f x)) (λ e. ap f ((bytes_eq-Decides y x).0 e), λ e. (bytes_eq-Decides y x).1 (inj y x e)))
 
 -- what the senders hold in a cell is what a row holds, as f states it
 module _ (m : Replica) (t : Store) (f : List ℕ → Stmt (List ℕ)) (c : Cell) (row : Cells)

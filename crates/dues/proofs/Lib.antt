@@ -1,4 +1,3 @@
-pub mod Firsts
 pub mod Telling
 pub mod Finding
 pub mod Voting

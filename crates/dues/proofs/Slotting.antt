@@ -54,10 +54,6 @@ unfolding bind
 bind_some st None = refl
 bind_some st (Some x) = refl
 
-pub carried : {A B C : Type 0} (f : A → B) (st : B → C) (o : Option A) → option_map (λ x. st (f x)) o ≡ option_map st (option_map f o)
-carried f st None = refl
-carried f st (Some x) = refl
-
 in_sight : {A : Type 0} (b : Bool) (o : Option A) → b ≡ true → held b o ≡ o
 in_sight b o e = rw e refl
 

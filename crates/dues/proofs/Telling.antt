@@ -2,17 +2,10 @@
 use Rattle.std.proofs.Common.{◌≡◌, ℕ, Bool, true, false, ◌↔◌, List, Some, None, Option, sym, refl, ap}
 use Rattle.std.specs.Option.{option_map}
 use Rattle.theory.specs.Statement.{Bits, only, both, Stmt, StmtEq}
-use Rattle.theory.specs.Turns.{is, same_bit, told}
+use Rattle.theory.specs.Turns.{is, same_bit}
 use Rattle.votes.specs.Votes.{is_bit, is_set, same_set}
 use Rattle.replica.specs.View.{bytes_same}
-use Rattle.theory.specs.Statement.{decided}
-use Rattle.theory.proofs.Memory.{decided_yes}
-
--- a test that tells of what is decided
-pub by_told : {P : Type 0} (b : Bool) (d : Dec P) → (b ≡ true) ↔ P → b ≡ decided d
-by_told true d told = sym (decided_yes d (told.0 refl))
-by_told false (yes a) told = told.1 a
-by_told false (no n) told = refl
+use Rattle.replica.proofs.Vacating.{decided_by}
 
 -- whether what is held is told as x, by a test of what it carries
 abbrev pub tested : {A : Type 0} → (A → A → Bool) → A → Option A → Bool
@@ -21,7 +14,7 @@ tested test x (Some y) = test x y
 
 is_tested : {A : Type 0} (test : A → A → Bool) (st : A → Stmt (List ℕ)) → ((x y : A) → (test x y ≡ true) ↔ (st y ≡ st x)) → (o : Option A) (x : A) → is (StmtEq bytes_same) (option_map st o) (st x) ≡ tested test x o
 is_tested test st tells None x = refl
-is_tested test st tells (Some y) x = sym (by_told (test x y) (StmtEq bytes_same (st y) (st x)) (tells x y))
+is_tested test st tells (Some y) x = sym (decided_by (test x y) (StmtEq bytes_same (st y) (st x)) (tells x y))
 
 bit_told : (st : Bool → Stmt (List ℕ)) → ((u v : Bool) → st u ≡ st v → u ≡ v) → (x y : Bool) → (same_bit x y ≡ true) ↔ (st y ≡ st x)
 bit_told st inj true true = (λ e. refl, λ e. refl)

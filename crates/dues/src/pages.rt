@@ -2,8 +2,7 @@
 ghost use Rattle.std.specs.Prelude.{◌≡◌, ◌%◌, ◌<◌, IfSome};
 ghost use Rattle.std.specs.Option.{option_map};
 ghost use Rattle.theory.specs.Turns.{kept_at, writes};
-ghost use Rattle.replica.specs.Store.{store};
-ghost use Rattle.replica.specs.View.{plan, box};
+ghost use Rattle.replica.specs.Fitting.{plan_of, box_of};
 
 use entry::Entry;
 use replica::{Fitted, Set};
@@ -19,7 +18,7 @@ pub fn queue_of(set: &Set, epoch: u16) -> u8
 fn kept<K: Entry>(lent: &Fitted<'_, '_, K>, queue: u8, slot: u8) -> Option<K>
     requires low { queue < lent.now.replica.now.set.n }
     requires inside { slot < lent.now.replica.now.set.w }
-    ensures { option_map K.bytes result ≡ kept_at (plan lent.now.replica.now) (box lent.now.replica.now (store K.bytes lent.now.tables.now)) queue slot }
+    ensures { option_map K.bytes result ≡ kept_at (plan_of lent.now) (box_of lent.now) queue slot }
 {
     let set = &lent.replica.set;
     let at = set.grid().place(queue, slot, set.me);
@@ -29,7 +28,7 @@ fn kept<K: Entry>(lent: &Fitted<'_, '_, K>, queue: u8, slot: u8) -> Option<K>
 // The candidate of the epoch's queue: up from its head, past kept slots whose entry is in the book, the slot that is reached, if it
 // is kept.
 pub fn candidate<K: Entry>(lent: &Fitted<'_, '_, K>) -> Option<u8>
-    ensures { result ≡ option_map (λ p. p.0) (writes (plan lent.now.replica.now) (box lent.now.replica.now (store K.bytes lent.now.tables.now))) }
+    ensures { result ≡ option_map (λ p. p.0) (writes (plan_of lent.now) (box_of lent.now)) }
 {
     let replica = lent.replica;
     let queue = queue_of(&replica.set, replica.epoch);
@@ -45,7 +44,7 @@ pub fn candidate<K: Entry>(lent: &Fitted<'_, '_, K>) -> Option<u8>
 // Turn 6, Write: the slot and the entry of the next page.
 pub fn page_due<K: Entry>(lent: &Fitted<'_, '_, K>) -> Option<(u8, K)>
     ensures within { IfSome result (λ p. p.0 < lent.now.replica.now.set.w) }
-    ensures value { option_map (λ p. (p.0, K.bytes p.1)) result ≡ writes (plan lent.now.replica.now) (box lent.now.replica.now (store K.bytes lent.now.tables.now)) }
+    ensures value { option_map (λ p. (p.0, K.bytes p.1)) result ≡ writes (plan_of lent.now) (box_of lent.now) }
 {
     let slot = candidate(lent)?;
     let queue = queue_of(&lent.replica.set, lent.replica.epoch);

@@ -117,6 +117,22 @@ pub fn confirm_due(replica: &Replica, round: u8) -> Option<Bits>
     values
 }
 
+// How a round is closed, by the union of the sets, the toss, and whether no finish is stated.
+fn outcome(joined: Option<Bits>, toss: bool, free: bool) -> Closing
+    ensures { (result.bit, result.finish) ≡ outcome (option_map bits_of joined) toss free }
+{
+    match joined {
+        Some(Bits::Only(bit)) => Closing {
+            bit,
+            finish: bit == toss && free,
+        },
+        _ => Closing {
+            bit: toss,
+            finish: false,
+        },
+    }
+}
+
 // Turn 10, Close, with the coin's toss for the round.
 pub fn close_due<C: Coin>(replica: &Replica, round: u8, coin: &mut C) -> Option<Closing>
     requires week { replica.now.epoch < epochs }
@@ -135,20 +151,4 @@ pub fn close_due<C: Coin>(replica: &Replica, round: u8, coin: &mut C) -> Option<
     let joined = votes.confirms.union(values, set.n);
     let free = replica.votes.finish.bit(set.me).is_none();
     Some(outcome(joined, toss, free))
-}
-
-// How a round is closed, by the union of the sets, the toss, and whether no finish is stated.
-fn outcome(joined: Option<Bits>, toss: bool, free: bool) -> Closing
-    ensures { (result.bit, result.finish) ≡ outcome (option_map bits_of joined) toss free }
-{
-    match joined {
-        Some(Bits::Only(bit)) => Closing {
-            bit,
-            finish: bit == toss && free,
-        },
-        _ => Closing {
-            bit: toss,
-            finish: false,
-        },
-    }
 }

@@ -1,13 +1,11 @@
 // Turns 1 to 3, which go by entries.
-ghost use Rattle.std.specs.Prelude.{◌≡◌, ℕ, ◌+◌, ◌*◌, ◌<◌, ◌≤◌, List, Option, IfSome, map, length};
+ghost use Rattle.std.specs.Prelude.{◌≡◌, ℕ, ◌*◌, ◌<◌, ◌≤◌, List, Option, IfSome, map, length};
 ghost use Rattle.std.specs.Option.{option_map};
 ghost use Rattle.theory.specs.Statement.{Stmt, echo, ready, have};
-ghost use Rattle.theory.specs.Search.{first, or_else, unless};
-ghost use Rattle.theory.specs.Turns.{each_slot, echo_at, ready_at, have_at};
-ghost use Rattle.cells.specs.Rows.{part, row_of, place_of, lowest_in};
-ghost use Rattle.replica.specs.Store.{store};
-ghost use Rattle.replica.specs.View.{plan, box};
-ghost use Rattle.dues.specs.Slots.{vouched_of, Finds};
+ghost use Rattle.theory.specs.Search.{first};
+ghost use Rattle.theory.specs.Turns.{echo_at, ready_at, have_at};
+ghost use Rattle.replica.specs.Fitting.{plan_of, box_of};
+ghost use Rattle.dues.specs.Slots.{vouched_of, Finds, Inside, due_as, first_due};
 
 use crate::due::Due;
 use crate::thresholds::most;
@@ -18,8 +16,8 @@ use replica::{Fitted, Set};
 // The first slot where something is due, lowest queue first.
 fn first_slot<K: Entry, F: Fn(u8, u8) -> Option<K>>(set: &Set, due: F) -> Option<Due<K>>
     requires callable { (q s : ℕ) → q < set.now.n → s < set.now.w → F.pre due q s }
-    ensures within { IfSome result (λ d. (d.queue < set.now.n) × (d.slot < set.now.w)) }
-    ensures value { (st : ℕ → ℕ → List ℕ → Stmt (List ℕ)) (at : ℕ → ℕ → Option (Stmt (List ℕ))) → Finds set.now.n set.now.w K.bytes (F.post due) st at → option_map (λ d. st d.queue d.slot (K.bytes d.item)) result ≡ first set.now.n (λ q. first set.now.w (at q)) }
+    ensures within { IfSome result (Inside set.now) }
+    ensures value { (st : ℕ → ℕ → List ℕ → Stmt (List ℕ)) (at : ℕ → ℕ → Option (Stmt (List ℕ))) → Finds set.now.n set.now.w K.bytes (F.post due) st at → option_map (due_as K.bytes st) result ≡ first set.now.n (λ q. first set.now.w (at q)) }
 {
     for queue in 0..set.n {
         for slot in 0..set.w {
@@ -35,7 +33,7 @@ fn first_slot<K: Entry, F: Fn(u8, u8) -> Option<K>>(set: &Set, due: F) -> Option
 fn echo_for<K: Entry>(lent: &Fitted<'_, '_, K>, queue: u8, slot: u8) -> Option<K>
     requires low { queue < lent.now.replica.now.set.n }
     requires inside { slot < lent.now.replica.now.set.w }
-    ensures { option_map (λ x. echo queue slot (K.bytes x)) result ≡ echo_at (plan lent.now.replica.now) (box lent.now.replica.now (store K.bytes lent.now.tables.now)) queue slot }
+    ensures { option_map (λ x. echo queue slot (K.bytes x)) result ≡ echo_at (plan_of lent.now) (box_of lent.now) queue slot }
 {
     let set = &lent.replica.set;
     let grid = set.grid();
@@ -57,7 +55,7 @@ fn vouched<K: Entry>(
     slot: u8,
     stated: &Witness<'_, K>,
     heard: &Witness<'_, K>,
-    enough: u32,
+    enough: usize,
 ) -> Option<K>
     requires low { queue < set.now.n }
     requires inside { slot < set.now.w }
@@ -71,7 +69,7 @@ fn vouched<K: Entry>(
     }
     let row = grid.row(queue, slot);
     let n = usize::from(set.n);
-    if let Some(item) = heard.lowest(row, n, enough as usize) {
+    if let Some(item) = heard.lowest(row, n, enough) {
         return Some(item);
     }
     stated.lowest(row, n, usize::from(set.f) + 1)
@@ -81,11 +79,11 @@ fn vouched<K: Entry>(
 fn ready_for<K: Entry>(lent: &Fitted<'_, '_, K>, queue: u8, slot: u8) -> Option<K>
     requires low { queue < lent.now.replica.now.set.n }
     requires inside { slot < lent.now.replica.now.set.w }
-    ensures { option_map (λ x. ready queue slot (K.bytes x)) result ≡ ready_at (plan lent.now.replica.now) (box lent.now.replica.now (store K.bytes lent.now.tables.now)) queue slot }
+    ensures { option_map (λ x. ready queue slot (K.bytes x)) result ≡ ready_at (plan_of lent.now) (box_of lent.now) queue slot }
 {
     let set = &lent.replica.set;
     let tables = lent.tables;
-    let enough = u32::from(set.q);
+    let enough = usize::from(set.q);
     vouched(set, queue, slot, &tables.readies, &tables.echoes, enough)
 }
 
@@ -93,25 +91,26 @@ fn ready_for<K: Entry>(lent: &Fitted<'_, '_, K>, queue: u8, slot: u8) -> Option<
 fn have_for<K: Entry>(lent: &Fitted<'_, '_, K>, queue: u8, slot: u8) -> Option<K>
     requires low { queue < lent.now.replica.now.set.n }
     requires inside { slot < lent.now.replica.now.set.w }
-    ensures { option_map (λ x. have queue slot (K.bytes x)) result ≡ have_at (plan lent.now.replica.now) (box lent.now.replica.now (store K.bytes lent.now.tables.now)) queue slot }
+    ensures { option_map (λ x. have queue slot (K.bytes x)) result ≡ have_at (plan_of lent.now) (box_of lent.now) queue slot }
 {
     let set = &lent.replica.set;
     let tables = lent.tables;
-    vouched(set, queue, slot, &tables.haves, &tables.readies, most(set))
+    let enough = most(set) as usize;
+    vouched(set, queue, slot, &tables.haves, &tables.readies, enough)
 }
 
 // Turn 1, Echo.
 pub fn echo_due<K: Entry>(lent: &Fitted<'_, '_, K>) -> Option<Due<K>>
-    ensures within { IfSome result (λ d. (d.queue < lent.now.replica.now.set.n) × (d.slot < lent.now.replica.now.set.w)) }
-    ensures value { option_map (λ d. echo d.queue d.slot (K.bytes d.item)) result ≡ each_slot (plan lent.now.replica.now) (box lent.now.replica.now (store K.bytes lent.now.tables.now)) (echo_at (plan lent.now.replica.now) (box lent.now.replica.now (store K.bytes lent.now.tables.now))) }
+    ensures within { IfSome result (Inside lent.now.replica.now.set) }
+    ensures value { option_map (due_as K.bytes echo) result ≡ first_due echo_at lent.now }
 {
     first_slot(&lent.replica.set, |queue, slot| echo_for(lent, queue, slot))
 }
 
 // Turn 2, Ready.
 pub fn ready_due<K: Entry>(lent: &Fitted<'_, '_, K>) -> Option<Due<K>>
-    ensures within { IfSome result (λ d. (d.queue < lent.now.replica.now.set.n) × (d.slot < lent.now.replica.now.set.w)) }
-    ensures value { option_map (λ d. ready d.queue d.slot (K.bytes d.item)) result ≡ each_slot (plan lent.now.replica.now) (box lent.now.replica.now (store K.bytes lent.now.tables.now)) (ready_at (plan lent.now.replica.now) (box lent.now.replica.now (store K.bytes lent.now.tables.now))) }
+    ensures within { IfSome result (Inside lent.now.replica.now.set) }
+    ensures value { option_map (due_as K.bytes ready) result ≡ first_due ready_at lent.now }
 {
     first_slot(
         &lent.replica.set,
@@ -121,8 +120,8 @@ pub fn ready_due<K: Entry>(lent: &Fitted<'_, '_, K>) -> Option<Due<K>>
 
 // Turn 3, Keep.
 pub fn have_due<K: Entry>(lent: &Fitted<'_, '_, K>) -> Option<Due<K>>
-    ensures within { IfSome result (λ d. (d.queue < lent.now.replica.now.set.n) × (d.slot < lent.now.replica.now.set.w)) }
-    ensures value { option_map (λ d. have d.queue d.slot (K.bytes d.item)) result ≡ each_slot (plan lent.now.replica.now) (box lent.now.replica.now (store K.bytes lent.now.tables.now)) (have_at (plan lent.now.replica.now) (box lent.now.replica.now (store K.bytes lent.now.tables.now))) }
+    ensures within { IfSome result (Inside lent.now.replica.now.set) }
+    ensures value { option_map (due_as K.bytes have) result ≡ first_due have_at lent.now }
 {
     first_slot(&lent.replica.set, |queue, slot| have_for(lent, queue, slot))
 }

@@ -15,7 +15,9 @@ use Rattle.replica.specs.declared.state.Replica.{Replica}
 use Rattle.replica.specs.Store.{Store}
 use Rattle.replica.specs.declared.state.Stage.TheVariants.{Unopened, Open, Awaiting}
 use Rattle.replica.specs.View.{stage_of, plan, box}
-use Rattle.moves.specs.Moves.{states, tried, by_entries, by_rounds, opening_of}
+use Rattle.moves.specs.Moves.{states}
+use Rattle.moves.specs.Trials.{tried, by_entries, by_rounds}
+use Rattle.moves.specs.Opening.{opening_of}
 
 module _ {A : Type 0} where
   assoc : (a b c : Option A) → or_else (or_else a b) c ≡ or_else a (or_else b c)

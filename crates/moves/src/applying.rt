@@ -7,7 +7,8 @@ ghost use Rattle.replica.specs.Holding.{held_of};
 ghost use Rattle.replica.specs.Store.{store, fits};
 ghost use Rattle.replica.specs.View.{plan, box};
 ghost use Rattle.turns.specs.Stepping.{steps_of};
-ghost use Rattle.moves.specs.Moves.{move_of, Allowed};
+ghost use Rattle.moves.specs.Moves.{move_of};
+ghost use Rattle.moves.specs.Ranges.{Allowed};
 
 use crate::leaving::{file, leave};
 use crate::moves::Move;
@@ -65,6 +66,24 @@ fn close<K: Entry>(replica: &mut Replica, tables: &mut Tables<'_, K>, round: u8,
     }
 }
 
+// Writes the page that the epoch awaits, and leaves it.
+fn write<K: Entry>(replica: &mut Replica, tables: &mut Tables<'_, K>, slot: u8, item: K)
+    requires week { replica.old.epoch < epochs }
+    requires inside { slot < replica.old.set.w }
+    ensures { (replica.new, store K.bytes tables.new) ≡ steps_of (writing (plan replica.old) (box replica.old (store K.bytes tables.old)) (slot, K.bytes item)) replica.old (store K.bytes tables.old) }
+{
+    let epoch = replica.epoch;
+    let queue = queue_of(&replica.set, epoch);
+    let page = Page {
+        epoch,
+        queue,
+        slot,
+        item,
+    };
+    file(replica, tables, page);
+    leave(replica);
+}
+
 // Does a move.
 pub fn apply<K: Entry>(replica: &mut Replica, tables: &mut Tables<'_, K>, next: Move<K>)
     requires lent { fits replica.old.set.n replica.old.set.w (store K.bytes tables.old) ≡ true }
@@ -92,22 +111,4 @@ pub fn apply<K: Entry>(replica: &mut Replica, tables: &mut Tables<'_, K>, next: 
         }
         Move::Close { round, closing } => close(replica, tables, round, closing),
     }
-}
-
-// Writes the page that the epoch awaits, and leaves it.
-fn write<K: Entry>(replica: &mut Replica, tables: &mut Tables<'_, K>, slot: u8, item: K)
-    requires week { replica.old.epoch < epochs }
-    requires inside { slot < replica.old.set.w }
-    ensures { (replica.new, store K.bytes tables.new) ≡ steps_of (writing (plan replica.old) (box replica.old (store K.bytes tables.old)) (slot, K.bytes item)) replica.old (store K.bytes tables.old) }
-{
-    let epoch = replica.epoch;
-    let queue = queue_of(&replica.set, epoch);
-    let page = Page {
-        epoch,
-        queue,
-        slot,
-        item,
-    };
-    file(replica, tables, page);
-    leave(replica);
 }

@@ -4,9 +4,11 @@ ghost use Rattle.std.specs.Option.{option_map};
 ghost use Rattle.common.specs.Limits.{epochs};
 ghost use Rattle.theory.specs.Calls.{turn};
 ghost use Rattle.replica.specs.declared.state.Stage.TheVariants.{Open};
-ghost use Rattle.replica.specs.Store.{Store, store};
-ghost use Rattle.replica.specs.View.{plan, box};
-ghost use Rattle.moves.specs.Moves.{move_of, Allowed, by_entries, by_rounds};
+ghost use Rattle.replica.specs.Fitting.{store_of, plan_of, box_of};
+ghost use Rattle.replica.specs.Store.{Store};
+ghost use Rattle.moves.specs.Moves.{move_of};
+ghost use Rattle.moves.specs.Ranges.{Allowed};
+ghost use Rattle.moves.specs.Trials.{by_entries, by_rounds};
 
 use crate::moves::Move;
 use coin::Coin;
@@ -21,7 +23,7 @@ use replica::{Fitted, Replica, Stage};
 // Turns 1 to 3.
 fn by_entries<K: Entry>(lent: &Fitted<'_, '_, K>) -> Option<Move<K>>
     ensures allowed { IfSome result (Allowed lent.now.replica.now) }
-    ensures value { (coin : _) → option_map (move_of K.bytes lent.now.replica.now (store K.bytes lent.now.tables.now)) result ≡ by_entries lent.now.replica.now (store K.bytes lent.now.tables.now) coin }
+    ensures value { (coin : _) → option_map (move_of K.bytes lent.now.replica.now (store_of lent.now)) result ≡ by_entries lent.now.replica.now (store_of lent.now) coin }
 {
     if let Some(due) = echo_due(lent) {
         return Some(Move::Echo(due));
@@ -65,7 +67,7 @@ fn by_rounds<K: Entry, C: Coin>(
 // The first of the ten that applies. Nothing is changed, but the coin is tossed where Close needs it.
 pub fn choose<K: Entry, C: Coin>(lent: &Fitted<'_, '_, K>, coin: &mut C) -> Option<Move<K>>
     ensures allowed { IfSome result (Allowed lent.now.replica.now) }
-    ensures value { option_map (move_of K.bytes lent.now.replica.now (store K.bytes lent.now.tables.now)) result ≡ turn (plan lent.now.replica.now) (box lent.now.replica.now (store K.bytes lent.now.tables.now)) (C.meaning coin.old) }
+    ensures value { option_map (move_of K.bytes lent.now.replica.now (store_of lent.now)) result ≡ turn (plan_of lent.now) (box_of lent.now) (C.meaning coin.old) }
     ensures coin { C.meaning coin.new ≡ C.meaning coin.old }
 {
     if let Some(first) = by_entries(lent) {

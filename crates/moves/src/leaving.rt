@@ -1,10 +1,8 @@
 // Leaving an epoch, and writing a page.
-ghost use Rattle.std.specs.Prelude.{◌≡◌, ◌<◌};
-ghost use Rattle.common.specs.Limits.{most_replicas, epochs};
-ghost use Rattle.replica.specs.Store.{store};
+ghost use Rattle.std.specs.Prelude.{◌≡◌, ◌<◌, Some};
+ghost use Rattle.common.specs.Limits.{most_replicas, most_slots, epochs};
+ghost use Rattle.replica.specs.Store.{store, paged};
 ghost use Rattle.turns.specs.Stepping.{left_of, filed_of};
-ghost use Rattle.std.specs.Prelude.{Some, true};
-ghost use Rattle.replica.specs.Store.{paged};
 
 use entry::Entry;
 use replica::{Page, Replica, Stage, Tables};
@@ -15,8 +13,7 @@ pub fn leave(replica: &mut Replica)
     requires week { replica.old.epoch < epochs }
     ensures { replica.new ≡ left_of replica.old }
 {
-    let finish = replica.votes.finish.bit(replica.set.me);
-    replica.past[usize::from(replica.epoch)] = finish;
+    replica.keep_finish();
     replica.votes = Votes::none();
     replica.stage = Stage::Unopened;
     replica.epoch += 1;
@@ -25,7 +22,7 @@ pub fn leave(replica: &mut Replica)
 // Writes a page behind the others, and moves the head of its queue behind its slot.
 pub fn file<K: Entry>(replica: &mut Replica, tables: &mut Tables<'_, K>, page: Page<K>)
     requires queue { page.queue < most_replicas }
-    requires slot { page.slot < 255 }
+    requires slot { page.slot < most_slots }
     ensures { (replica.new, store K.bytes tables.new) ≡ filed_of (Some (paged K.bytes page)) replica.old (store K.bytes tables.old) }
 {
     let place = usize::from(replica.pages);

@@ -1,8 +1,9 @@
 ghost use Rattle.std.specs.Prelude.{◌≡◌};
-ghost use Rattle.common.specs.Refusals.{answered, numbered};
+ghost use Rattle.common.specs.Refusals.{numbered};
+ghost use Rattle.replica.specs.Fitting.{store_of};
 ghost use Rattle.replica.specs.Store.{store};
 ghost use Rattle.turns.specs.Turning.{open_of, turn_of};
-ghost use Rattle.moves.specs.Moves.{opening_of};
+ghost use Rattle.moves.specs.Opening.{opening_of};
 
 use crate::applying::{apply, state};
 use crate::choosing::choose;
@@ -31,7 +32,7 @@ pub fn turn<K: Entry, C: Coin>(
 
 // The bit with which the epoch opens: 1 if its queue has a candidate, else 0.
 fn opening<K: Entry>(lent: &Fitted<'_, '_, K>) -> Result<bool, Refusal>
-    ensures { numbered result ≡ opening_of lent.now.replica.now (store K.bytes lent.now.tables.now) }
+    ensures { numbered result ≡ opening_of lent.now.replica.now (store_of lent.now) }
 {
     if lent.replica.epoch >= EPOCHS {
         return Err(Refusal::Over);

@@ -43,7 +43,8 @@ pub carried : {A B C : Type 0} (f : A → B) (st : B → C) (o : Option A) → o
 carried f st None = refl
 carried f st (Some x) = refl
 
-decided_by : {P : Type 0} (b : Bool) (d : Dec P) → (b ≡ true) ↔ P → b ≡ decided d
+-- a test that tells of what is decided
+pub decided_by : {P : Type 0} (b : Bool) (d : Dec P) → (b ≡ true) ↔ P → b ≡ decided d
 decided_by true (yes a) told = refl
 decided_by true (no n) told = absurd (n (told.0 refl))
 decided_by false (yes a) told = told.1 a

@@ -1,4 +1,5 @@
 pub mod Store
+pub mod Finishing
 pub mod View
 pub mod Claims
 pub mod Holding

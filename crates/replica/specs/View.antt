@@ -16,6 +16,7 @@ use Rattle.replica.specs.declared.state.Replica.{Replica}
 use Rattle.replica.specs.declared.state.Stage as declared
 use Rattle.replica.specs.declared.state.Stage.TheVariants.{Unopened, Open, Awaiting}
 use Rattle.replica.specs.Store.{Store}
+use Rattle.replica.specs.Finishing.{past_of}
 
 -- what there is, where the test holds
 abbrev pub held : {A : Type 0} → Bool → Option A → Option A
@@ -35,7 +36,7 @@ value_in v j p = held (marks p v j) (Some v)
 
 -- the current finish, and the own one of an epoch that was left
 abbrev pub finish_cell : Replica → ℕ → ℕ → Option (Stmt (List ℕ))
-finish_cell m e j = option_map (finish e) (held (nat_lt j m.set.n && nat_lt e epochs) (cond (e == m.epoch) (bit_of m.votes.finish j) (held (j == m.set.me && nat_lt e m.epoch) (slice_index_or m.past e None))))
+finish_cell m e j = option_map (finish e) (held (nat_lt j m.set.n && nat_lt e epochs) (cond (e == m.epoch) (bit_of m.votes.finish j) (held (j == m.set.me && nat_lt e m.epoch) (past_of m e))))
 
 -- what is held of sender j in a cell
 abbrev pub view : Replica → Store → Mem (List ℕ)

@@ -1,11 +1,11 @@
 // The cells of statements, and holding one.
 ghost use Rattle.std.specs.Prelude.{◌≡◌, ◌<◌, true};
 ghost use Rattle.common.specs.Refusals.{numbered};
-ghost use Rattle.theory.specs.Statement.{cell};
 ghost use Rattle.theory.specs.Calls.{ranged};
 ghost use Rattle.replica.specs.Store.{store, fits};
 ghost use Rattle.replica.specs.View.{plan, box};
 ghost use Rattle.replica.specs.Claims.{claim_of};
+ghost use Rattle.replica.specs.Fitting.{store_of, plan_of, box_of};
 ghost use Rattle.replica.specs.Holding.{vacant_of, held_of, Heard};
 
 use crate::claim::Claim;
@@ -21,8 +21,8 @@ impl<K: Entry> Fitted<'_, '_, K> {
     // Whether a sender's cell for the statement is free: 14 if the same is held there, 15 if another.
     pub fn vacant(&self, sender: u8, claim: Claim<K>) -> Result<(), Refusal>
         requires from { sender < self.now.replica.now.set.n }
-        requires ranged { ranged (plan self.now.replica.now) (box self.now.replica.now (store K.bytes self.now.tables.now)) (claim_of K.bytes claim) ≡ true }
-        ensures { numbered result ≡ vacant_of self.now.replica.now (store K.bytes self.now.tables.now) sender (claim_of K.bytes claim) }
+        requires ranged { ranged (plan_of self.now) (box_of self.now) (claim_of K.bytes claim) ≡ true }
+        ensures { numbered result ≡ vacant_of self.now.replica.now (store_of self.now) sender (claim_of K.bytes claim) }
     {
         let grid = self.replica.set.grid();
         let tables = self.tables;

@@ -6,6 +6,7 @@
 
 mod book;
 mod claim;
+mod finishing;
 mod fitted;
 mod fitting;
 mod fresh;

@@ -19,7 +19,7 @@ pub struct Replica {
     pub epoch: u16,
     pub stage: Stage,
     pub votes: Votes,
-    // The own finish of each epoch that was left.
+    // The own finish of each epoch that was left, which `past_finish` reads and `keep_finish` keeps.
     pub past: [Option<bool>; 256],
     // The first slot of each queue that may still be written.
     pub heads: [u8; 16],

@@ -1,6 +1,7 @@
 // What the replica holds from itself of votes.
-ghost use Rattle.std.specs.Prelude.{◌≡◌, ◌<◌};
+ghost use Rattle.std.specs.Prelude.{◌≡◌, ◌*◌, ◌<◌};
 ghost use Rattle.std.specs.Option.{option_map};
+ghost use Rattle.common.specs.Limits.{epochs, rounds};
 ghost use Rattle.theory.specs.Statement.{at_finish};
 ghost use Rattle.theory.specs.Machine.{own};
 ghost use Rattle.replica.specs.Claims.{claim_of};
@@ -15,11 +16,11 @@ use std::cmp::Ordering;
 
 // The finish of an epoch: of the current one from the votes, of one that was left from what was kept.
 pub fn finish_at<K: Entry>(replica: &Replica, epoch: u16) -> Option<Claim<K>>
-    requires { epoch < 256 }
+    requires { epoch < epochs }
     ensures { (t : Store) → option_map (claim_of K.bytes) result ≡ own (box replica.now t) (at_finish epoch) }
 {
     let bit = match epoch.cmp(&replica.epoch) {
-        Ordering::Less => replica.past[usize::from(epoch)],
+        Ordering::Less => replica.past_finish(epoch),
         Ordering::Equal => replica.votes.finish.bit(replica.set.me),
         Ordering::Greater => None,
     };
@@ -28,7 +29,7 @@ pub fn finish_at<K: Entry>(replica: &Replica, epoch: u16) -> Option<Claim<K>>
 
 // The vote `j` of the current epoch: in each round the values, seen and confirm.
 pub fn vote_at<K: Entry>(replica: &Replica, j: usize) -> Option<Claim<K>>
-    requires { j < 64 }
+    requires { j < 4 * rounds }
     ensures { (t : Store) → option_map (claim_of K.bytes) result ≡ own (box replica.now t) (by_round replica.now.epoch j) }
 {
     let epoch = replica.epoch;

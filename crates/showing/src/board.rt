@@ -3,7 +3,8 @@ ghost use Rattle.std.specs.Prelude.{◌≡◌, ◌*◌, ◌<◌, length, None, s
 ghost use Rattle.std.specs.Iterator.{YieldsFirstBy, item_count};
 ghost use Rattle.std.specs.Option.{option_map};
 ghost use Rattle.replica.specs.Claims.{claim_of};
-ghost use Rattle.replica.specs.Store.{Store, store};
+ghost use Rattle.replica.specs.Fitting.{store_of};
+ghost use Rattle.replica.specs.Store.{Store};
 ghost use Rattle.showing.specs.Boards.{places as board, standing};
 
 use crate::ballots::{finish_at, vote_at};
@@ -23,12 +24,12 @@ pub struct Board<'a, 't, K: Entry> {
 impl<'a, 't, K: Entry> Model for Board<'a, 't, K> {
     ghost use Rattle.std.specs.Prelude.{ℕ, List};
     ghost use Rattle.theory.specs.Statement.{Stmt};
-    ghost use Rattle.replica.specs.Store.{store};
+    ghost use Rattle.replica.specs.Fitting.{store_of};
     ghost use Rattle.showing.specs.Boards.{standing};
 
     ghost Value = { List (Stmt (List ℕ)) };
 
-    ghost view = { λ b. standing b.place b.lent.replica.now (store K.bytes b.lent.tables.now) };
+    ghost view = { λ b. standing b.place b.lent.replica.now (store_of b.lent) };
 }
 
 // The claims that stand there, in their order.
@@ -65,8 +66,8 @@ fn slots(set: &Set) -> usize
 
 // What stands at the place `i`.
 fn claim_at<K: Entry>(lent: &Fitted<'_, '_, K>, i: usize) -> Option<Claim<K>>
-    requires { i < length (board lent.now.replica.now (store K.bytes lent.now.tables.now)) }
-    ensures { option_map (claim_of K.bytes) result ≡ slice_index_or (board lent.now.replica.now (store K.bytes lent.now.tables.now)) i None }
+    requires { i < length (board lent.now.replica.now (store_of lent.now)) }
+    ensures { option_map (claim_of K.bytes) result ≡ slice_index_or (board lent.now.replica.now (store_of lent.now)) i None }
 {
     let set = &lent.replica.set;
     let w = usize::from(set.w);

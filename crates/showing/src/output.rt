@@ -4,7 +4,6 @@ ghost use Rattle.std.specs.List.{AllByRecursion};
 ghost use Rattle.common.specs.Refusals.{answered};
 ghost use Rattle.wire.specs.Codec.{unfit};
 ghost use Rattle.replica.specs.Store.{store};
-ghost use Rattle.showing.specs.Boards.{standing};
 ghost use Rattle.showing.specs.Spoken.{spoken, spelled};
 ghost use Rattle.showing.specs.Laws.{Shows};
 ghost use Rattle.showing.specs.Showing.{pair_of, lay_of, show_of};

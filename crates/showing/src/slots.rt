@@ -4,8 +4,7 @@ ghost use Rattle.std.specs.Option.{option_map};
 ghost use Rattle.theory.specs.Statement.{at_send};
 ghost use Rattle.theory.specs.Machine.{own};
 ghost use Rattle.replica.specs.Claims.{claim_of};
-ghost use Rattle.replica.specs.Store.{store};
-ghost use Rattle.replica.specs.View.{box};
+ghost use Rattle.replica.specs.Fitting.{box_of};
 ghost use Rattle.showing.specs.Boards.{by_table};
 
 use entry::Entry;
@@ -14,7 +13,7 @@ use replica::{Claim, Fitted};
 // The entry that the replica sends in a slot of its own.
 pub fn send_at<K: Entry>(lent: &Fitted<'_, '_, K>, slot: u8) -> Option<Claim<K>>
     requires { slot < lent.now.replica.now.set.w }
-    ensures { option_map (claim_of K.bytes) result ≡ own (box lent.now.replica.now (store K.bytes lent.now.tables.now)) (at_send slot) }
+    ensures { option_map (claim_of K.bytes) result ≡ own (box_of lent.now) (at_send slot) }
 {
     let set = &lent.replica.set;
     lent.tables
@@ -26,7 +25,7 @@ pub fn send_at<K: Entry>(lent: &Fitted<'_, '_, K>, slot: u8) -> Option<Claim<K>>
 // The own entry at the place `i` of the slots of all queues, of the echoes, the readies and then the haves.
 pub fn entry_at<K: Entry>(lent: &Fitted<'_, '_, K>, i: usize) -> Option<Claim<K>>
     requires { i < 3 * (lent.now.replica.now.set.n * lent.now.replica.now.set.w) }
-    ensures { option_map (claim_of K.bytes) result ≡ own (box lent.now.replica.now (store K.bytes lent.now.tables.now)) (by_table lent.now.replica.now.set i) }
+    ensures { option_map (claim_of K.bytes) result ≡ own (box_of lent.now) (by_table lent.now.replica.now.set i) }
 {
     let set = &lent.replica.set;
     let tables = lent.tables;

@@ -3,7 +3,8 @@ use Rattle.std.specs.Option.{option_map}
 use Rattle.theory.specs.Statement.{echo}
 use Rattle.cells.proofs.Cellrows.{map_read}
 use Rattle.replica.specs.Store.{store}
-use Rattle.dues.proofs.Slotting.{carried, cell_free, cell_taken, echo_stated, echo_is}
+use Rattle.replica.proofs.Vacating.{carried}
+use Rattle.dues.proofs.Slotting.{cell_free, cell_taken, echo_stated, echo_is}
 use Rattle.dues.proofs.slots.echo_for.Goals as goal
 
 pub returns-then-is_some : goal.returns-then-is_some

@@ -1,7 +1,7 @@
 use Rattle.std.proofs.Common.{◌≡◌, sym, ap, ◌∙◌, arith}
 use Rattle.std.specs.Option.{option_map}
 use Rattle.theory.specs.Search.{first}
-use Rattle.dues.proofs.Firsts.{first_start, first_on, first_hit}
+use Rattle.cells.proofs.Firsts.{first_start, first_on, first_here}
 use Rattle.dues.proofs.slots.first_slot.Goals as goal
 
 pub loop-queue-init : goal.loop-queue-init
@@ -14,7 +14,7 @@ pub returns-in-Some-clause-value : goal.returns-in-Some-clause-value
 returns-in-Some-clause-value g c st at finds =
     let now = c.loop-slot.invariant st at finds in
     let found = sym (finds c.loop-queue.queue c.loop-slot.slot c.due.result c.loop-queue-test.true c.loop-slot-test.true c.due.ensures) ∙ ap (option_map (λ x. st c.loop-queue.queue c.loop-slot.slot (g.K.Entry.bytes x))) c.in-Some.is in
-    sym (first_hit (λ q. first c.args.set.now.w (at q)) _ c.loop-queue.queue _ c.loop-queue-test.true now.0 (first_hit (at c.loop-queue.queue) _ c.loop-slot.slot _ c.loop-slot-test.true now.1 found))
+    sym (first_here (λ q. first c.args.set.now.w (at q)) _ c.loop-queue.queue _ c.loop-queue-test.true now.0 (first_here (at c.loop-queue.queue) _ c.loop-slot.slot _ c.loop-slot-test.true now.1 found))
 
 pub loop-slot-preserved : goal.loop-slot-preserved
 loop-slot-preserved g c st at finds =

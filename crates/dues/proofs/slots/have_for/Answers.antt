@@ -2,7 +2,8 @@ use Rattle.std.proofs.Common.{ap, ◌∙◌}
 use Rattle.std.specs.Option.{option_map}
 use Rattle.theory.specs.Statement.{have}
 use Rattle.replica.specs.Store.{store}
-use Rattle.dues.proofs.Slotting.{carried, have_is}
+use Rattle.replica.proofs.Vacating.{carried}
+use Rattle.dues.proofs.Slotting.{have_is}
 use Rattle.dues.proofs.slots.have_for.Goals as goal
 
 pub returns : goal.returns
@@ -12,4 +13,4 @@ returns g c =
     let t = c.args.lent.now.tables.now in
     carried b (have c.args.queue c.args.slot) c.vouched.result
     ∙ ap (option_map (have c.args.queue c.args.slot)) c.vouched.ensures
-    ∙ have_is m (store b t) c.args.queue c.args.slot c.requires.low c.requires.inside c.args.lent.now.long _ c.most.ensures
+    ∙ have_is m (store b t) c.args.queue c.args.slot c.requires.low c.requires.inside c.args.lent.now.long _ c.most-enough.ensures

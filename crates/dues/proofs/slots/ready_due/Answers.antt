@@ -1,12 +1,10 @@
 use Rattle.std.proofs.Common.{rules}
 use Rattle.theory.specs.Statement.{ready}
 use Rattle.theory.specs.Turns.{ready_at}
-use Rattle.replica.specs.Store.{store}
-use Rattle.replica.specs.View.{plan, box}
+use Rattle.replica.specs.Fitting.{plan_of, box_of}
 use Rattle.dues.proofs.slots.ready_due.Goals as goal
 
 pub returns-clause-value : goal.returns-clause-value
 returns-clause-value g c =
-    let m = c.args.lent.now.replica.now in
-    let t = store g.K.Entry.bytes c.args.lent.now.tables.now in
-    c.first_slot.ensures.value ready (ready_at (plan m) (box m t)) (λ q s r lq ls h. search rules)
+    let l = c.args.lent.now in
+    c.first_slot.ensures.value ready (ready_at (plan_of l) (box_of l)) (λ q s r lq ls h. search rules)

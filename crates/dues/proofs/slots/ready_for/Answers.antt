@@ -2,7 +2,8 @@ use Rattle.std.proofs.Common.{ap, ◌∙◌}
 use Rattle.std.specs.Option.{option_map}
 use Rattle.theory.specs.Statement.{ready}
 use Rattle.replica.specs.Store.{store}
-use Rattle.dues.proofs.Slotting.{carried, ready_is}
+use Rattle.replica.proofs.Vacating.{carried}
+use Rattle.dues.proofs.Slotting.{ready_is}
 use Rattle.dues.proofs.slots.ready_for.Goals as goal
 
 pub returns : goal.returns
