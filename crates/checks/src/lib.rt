@@ -21,6 +21,7 @@ mod records;
 mod replicas;
 
 // Every row of the table of examples holds.
+#[tactic(auto, using(crate::proofs::Rows::stand))]
 pub fn examples_stand() -> u8
     ensures { All examples }
 {

@@ -3,3 +3,4 @@ pub mod Keeping
 pub mod Tying
 pub mod Fitted
 pub mod Tied
+pub mod Sameness

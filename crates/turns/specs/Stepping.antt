@@ -4,11 +4,12 @@ use Rattle.std.specs.List.{slice_get}
 use Rattle.theory.specs.Statement.{value}
 use Rattle.theory.specs.Book.{Page}
 use Rattle.theory.specs.Machine.{Stage, unopened, awaiting, running, Small, says, hears, stays, enters, leaves, Steps}
-use Rattle.votes.specs.Votes.{no_votes, bit_of}
+use Rattle.votes.specs.Votes.{no_votes}
 use Rattle.replica.specs.declared.state.Replica.{Replica}
 use Rattle.replica.specs.declared.state.Stage as declared
 use Rattle.replica.specs.declared.state.Stage.TheVariants.{Unopened, Open, Awaiting}
 use Rattle.replica.specs.Store.{Store}
+use Rattle.replica.specs.Finishing.{finish_kept}
 use Rattle.replica.specs.View.{book_of}
 use Rattle.replica.specs.Holding.{held_of}
 
@@ -27,7 +28,7 @@ left_of m = record {
   epoch = m.epoch + 1;
   stage = Unopened;
   votes = no_votes;
-  past = set m.past m.epoch (bit_of m.votes.finish m.set.me);
+  past = (finish_kept m).past;
   heads = m.heads;
   pages = m.pages;
 }

@@ -1,8 +1,8 @@
 // Follow and Decide at their thresholds and one below, and what open and short tables decline.
 use crate::members::{Member, SETS, marks};
 use coin::Bench;
-use moves::{open, turn};
 use replica::{Replica, Stage};
+use serving::{Call, serve};
 use std::process::Abort;
 use std::test::*;
 use votes::{Marks, Mask, Votes};
@@ -68,13 +68,15 @@ fn thresholds(rt: HostRuntime) -> Result<(), Fail> {
 // Both bits have enough, and the lower is taken. The own finish stays as it was stated.
 #[test]
 fn lower_bit(rt: HostRuntime) -> Result<(), Fail> {
-    let mut five = Member::new(5, 4)?;
-    five.replica.votes.finish = Marks {
-        zero: Mask(0b01100),
-        one: Mask(0b00011),
-    };
-    five.turns(4)?;
-    assert_eq!(rt; five.replica.votes.finish.bit(4), Some(false));
+    for n in [5, 6] {
+        let mut member = Member::new(n, 4)?;
+        member.replica.votes.finish = Marks {
+            zero: Mask(0b01100),
+            one: Mask(0b00011),
+        };
+        member.turns(4)?;
+        assert_eq!(rt; member.replica.votes.finish.bit(4), Some(false));
+    }
     let mut six = Member::new(6, 0)?;
     six.replica.votes.finish = Marks {
         zero: Mask(0b111000),
@@ -115,11 +117,11 @@ fn short_tables(rt: HostRuntime) -> Result<(), Fail> {
         let mut member = Member::new(16, 3)?;
         member.replica.votes.finish = marks(true, 11)?;
         let was = member.replica;
-        let mut tables = member.cells.short(table);
-        let turned = turn(&mut member.replica, &mut tables, &mut Bench);
-        assert_eq!(rt; turned.map_err(u8::from), Err(4));
-        let opened = open(&mut member.replica, &mut tables);
-        assert_eq!(rt; opened.map_err(u8::from), Err(4));
+        for call in [Call::Turn, Call::Open] {
+            let mut tables = member.cells.short(table);
+            let answer = serve(&mut member.replica, &mut tables, &mut Bench, call);
+            assert_eq!(rt; answer.map_err(u8::from), Err(4));
+        }
         assert!(rt; member.replica == was);
     }
     Ok(())

@@ -129,6 +129,21 @@ fn second_in_order(rt: HostRuntime) -> Result<(), Fail> {
     Ok(())
 }
 
+// Both values are held from three, and the lower is seen.
+#[test]
+fn lower_value_seen(rt: HostRuntime) -> Result<(), Fail> {
+    for n in [5, 6] {
+        let mut member = in_round(n, 0, 0)?;
+        member.replica.votes.rounds[0].values = Marks {
+            zero: Mask(0b11001),
+            one: Mask(0b00111),
+        };
+        member.turns(8)?;
+        assert_eq!(rt; member.replica.votes.rounds[0].seens, marks(false, 1)?);
+    }
+    Ok(())
+}
+
 // Value 0 from some, value 1 from three, the seen bits 1, 1, 0, 1 and the sets {1}, {1}, both, {1}: the round closes.
 fn grown(rt: &impl Abort, zero: Mask, next: bool) -> Result<(), Fail> {
     let mut member = in_round(4, 0, 0)?;

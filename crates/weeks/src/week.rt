@@ -1,8 +1,7 @@
 // A week of four replicas, in which replica 0 submits one reading: the protocol's page from start to end.
+use crate::groups::{open_all, stand, tell_all};
 use crate::members::Member;
 use checks::memory::READING;
-use intake::submit;
-use printing::print;
 use std::process::Abort;
 use std::test::*;
 
@@ -30,7 +29,7 @@ const NONE: &[u8] = b"book;4;0\nepoch;box;slot;house;week;quantity;amount\n";
 // Four replicas, of which the first has submitted the reading.
 fn begun() -> Result<Members, Fail> {
     let mut first = Member::new(4, 0)?;
-    submit(&mut first.replica, &mut first.cells.tables(), &READING)?;
+    first.submits(&READING)?;
     Ok([
         first,
         Member::new(4, 1)?,
@@ -39,48 +38,14 @@ fn begun() -> Result<Members, Fail> {
     ])
 }
 
-// One replica shows its board, and the others hear it.
-fn tells(members: &mut Members, sender: u8) -> Result<(), Fail> {
-    let mut out = [0; 160];
-    let teller = members.get_mut(usize::from(sender)).ok_or("no member")?;
-    let length = teller.shows(&mut out)?;
-    let board = out.get(..length).ok_or("no board")?;
-    for (i, member) in members.iter_mut().enumerate() {
-        if i != usize::from(sender) {
-            member.hears(sender, board)?;
-        }
-    }
-    Ok(())
-}
-
 // All hear all boards, and then each takes these turns and rests.
 fn exchange(members: &mut Members, turns: &[u8]) -> Result<(), Fail> {
-    for sender in 0..4 {
-        tells(members, sender)?;
-    }
+    tell_all(members)?;
     for member in members.iter_mut() {
         for number in turns {
             member.turns(*number)?;
         }
         member.turns(0)?;
-    }
-    Ok(())
-}
-
-fn open_all(members: &mut Members) -> Result<(), Fail> {
-    for member in members.iter_mut() {
-        member.opens(Ok(()))?;
-    }
-    Ok(())
-}
-
-// Each is in an epoch and prints this file.
-fn stand(rt: &impl Abort, members: &mut Members, epoch: u16, file: &[u8]) -> Result<(), Fail> {
-    for member in members.iter_mut() {
-        let mut out = [7; 100];
-        let length = print(&member.replica, &member.cells.tables(), &mut out)?;
-        assert_eq!(rt; out.get(..length), Some(file));
-        assert_eq!(rt; member.replica.epoch, epoch);
     }
     Ok(())
 }
