@@ -26,7 +26,7 @@ use Rattle.turns.specs.Turning.{opened, open_of, turned, turn_of}
 use Rattle.turns.specs.Ties.{Whole}
 use Rattle.turns.proofs.Keeping.{held_rest, held_whole}
 use Rattle.turns.proofs.Tied.{ties}
-use Rattle.promises.specs.Runs.{Kind, Call, submit, opens, hear, turns, call_of}
+use Rattle.promises.specs.Runs.{Kind, Wide, Call, submit, opens, hear, turns, call_of}
 use Rattle.promises.proofs.Typing.{meant, says_meant, meant_says, idle, heard_as, call_as}
 
 -- the numbers of a replica stay
@@ -88,7 +88,7 @@ module _ (K : Kind) (coin : ℕ → ℕ → Bool) (m : Replica) (t : Store) wher
   pub idle_does : does (theory.steps (plan m) coin (box m t) (idle K m.set.me)) (box m t) ≡ box m t
   idle_does = rw (eq-eqb m.set.me m.set.me refl, and_right (ltb m.set.me m.set.n) false refl) refl
 
-  module _ (W : Whole m t) where
+  module _ (wide : Wide K) (W : Whole m t) where
     deaf : (j : ℕ) (x : Stmt (List ℕ)) → theory.accepts (plan m) (box m t) j x ≡ false → does (theory.steps (plan m) coin (box m t) (theory.hear j x)) (box m t) ≡ box m t
     deaf j x e = rw e refl
 
@@ -126,7 +126,7 @@ module _ (K : Kind) (coin : ℕ → ℕ → Bool) (m : Replica) (t : Store) wher
       where
         none : K.valid s ≡ true → (o : Option ℕ) → theory.takes (plan m) (box m t) s ≡ o → theory.takes (plan m) (box m t) s ≡ None
         none v None h = h
-        none v (Some k) h = absurd (ok≢err (sym (offering K.width K.valid m t s K.wide W.lent v k h) ∙ e))
+        none v (Some k) h = absurd (ok≢err (sym (offering K.width K.valid m t s wide W.lent v k h) ∙ e))
 
         at : (K.valid s ≡ true) ⊎ (K.valid s ≡ false) → does (theory.steps (plan m) coin (box m t) (call_as K m.set.me (submit s))) (box m t) ≡ box m t
         at (inl v) = rw (v, none v (theory.takes (plan m) (box m t) s) refl) refl

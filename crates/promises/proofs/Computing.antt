@@ -1,13 +1,8 @@
 -- What the theory's boxes meet after the calls of the script: the tests compute.
-use Rattle.std.proofs.Common.{◌≡◌, ℕ, ◌+◌, ◌*◌, ◌%◌, ◌<◌, ◌≤◌, Bool, true, false, not, ◌&&◌, ltb, List, [], ◌∷◌, length, sym, refl, ◌∙◌, subst, arith}
-use mathlib.Core.Bool.{false≢true}
-use mathlib.Core.Logic.{Dec-prop}
-use mathlib.Core.HLevel.{hedberg}
+use Rattle.std.proofs.Common.{◌≡◌, ℕ, ◌+◌, ◌*◌, ◌%◌, ◌<◌, ◌≤◌, Bool, true, not, ◌&&◌, ltb, List, [], ◌∷◌, length, refl, ◌∙◌, subst, arith}
 use native.Mathlib.Bridge.{le_prop}
 use native.Mathlib.Decide.{ℕ_discrete}
-use Rattle.std.specs.Str.{bytes_eq}
 use Rattle.std.proofs.lemmas.Bool.{and_parts, eqb-true}
-use Rattle.std.proofs.lemmas.Slice.Eq.{bytes_eq-Decides}
 use Rattle.common.specs.Quorums.{faults, echoes}
 use Rattle.theory.specs.Count.{Honest, count}
 use Rattle.theory.specs.Statement.{sends, echo, CellDiscrete, ready}
@@ -22,13 +17,17 @@ use Rattle.theory.proofs.Testing.{fair_test, fair_check, still, quiet_check}
 use Rattle.theory.proofs.Quieting.{promise}
 use Rattle.entry.specs.Readings.{is_reading}
 use Rattle.replica.specs.View.{bytes_same}
-use Rattle.promises.specs.Runs.{Kind}
+use Rattle.turns.proofs.Sameness.{by_test, by_bytes, by_bytes_is}
+use Rattle.promises.specs.Runs.{Kind, Wide}
 use Rattle.promises.specs.Met.{truth, lie, page}
 use Rattle.promises.specs.Met as bytes
 use Rattle.promises.proofs.Typing.{calls}
 
 abbrev pub kind : Kind
-kind = record { width = 8; valid = is_reading; wide = λ s e. eqb-true (length s) 8 (and_parts _ _ e).0 }
+kind = record { width = 8; valid = is_reading }
+
+pub wide : Wide kind
+wide s e = eqb-true (length s) 8 (and_parts _ _ e).0
 
 -- the script by statements
 abbrev pub script : Calls (List ℕ)
@@ -37,17 +36,6 @@ script = calls kind bytes.script
 -- four boxes of two slots; epoch e is of queue e mod 4
 abbrev among : Discrete (List ℕ) → Plan (List ℕ)
 among same = record { size = 4; faults = faults 4; quorum = echoes 4; width = 2; epochs = 256; rounds = 16; queue = λ e. e % 4; eq = same }
-
--- equality of byte strings, by a test that computes
-by_test : (xs ys : List ℕ) (b : Bool) → bytes_eq xs ys ≡ b → Dec (xs ≡ ys)
-by_test xs ys true e = yes ((bytes_eq-Decides xs ys).0 e)
-by_test xs ys false e = no (λ p. false≢true (sym e ∙ (bytes_eq-Decides xs ys).1 p))
-
-by_bytes : Discrete (List ℕ)
-by_bytes xs ys = by_test xs ys (bytes_eq xs ys) refl
-
-by_bytes_is : by_bytes ≡ bytes_same
-by_bytes_is = λ i x y. Dec-prop (hedberg (bytes_same) x y) (by_bytes x y) (bytes_same x y) i
 
 -- box 3 is the faulty one
 abbrev pub first_three : ℕ → Bool

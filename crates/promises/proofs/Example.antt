@@ -18,7 +18,7 @@ use Rattle.promises.specs.Met.{truth, lie, script, Met}
 use Rattle.promises.proofs.Typing.{few_room, quorums_cross, some_round}
 use Rattle.promises.proofs.Transferring.{R, honest_box, on_board}
 use Rattle.promises.proofs.Meeting.{own_lending, fair_here, quiet_here, book_here, holds_here}
-use Rattle.promises.proofs.Computing.{kind}
+use Rattle.promises.proofs.Computing.{kind, wide}
 use Rattle.promises.proofs.Computing as boxes
 
 -- tables that are just long enough, with nothing in them
@@ -57,6 +57,7 @@ four = record {
   some = omega arith;
   slots = omega arith;
   kind = kind;
+  wide = wide;
   coin = by_turns;
   honest = boxes.first_three;
   few = few;

@@ -37,7 +37,7 @@ module _ (S : Set) where
     follow_call : (p : State) (B : Box (List ℕ)) → Follows i p B → (o : Option Store) (c : Call) → ((t : Store) → o ≡ Some t → fits S.n S.w t ≡ false)
         → Follows i (left S.kind S.coin p o c) (does (theory.steps P S.coin B (typed S.kind i o c)) B)
     follow_call p B f None c short =
-        let d = call_done S.kind S.coin p.0 p.1 f.whole c in
+        let d = call_done S.kind S.coin p.0 p.1 S.wide f.whole c in
         record {
           whole = d.whole;
           set = ap numbers d.set ∙ f.set;

@@ -80,7 +80,7 @@ module _ (S : Set) (c : List Asked) (l : Lending S c) (q : ℕ) (h : Honest S q)
       let m = p.0 in
       let u = p.1 in
       let takes : theory.takes (plan m) (box m u) y ≡ Some s = (λ z. theory.takes (plan_is S q p _ f z) (f.box z) y) ∙ t.1 in
-      let ok = (submits_law S.kind.width S.kind.valid m u y S.kind.wide).accepting f.whole.lent v s takes in
+      let ok = (submits_law S.kind.width S.kind.valid m u y S.wide).accepting f.whole.lent v s takes in
       let slot : unused_of m u ≡ Some s = (only_if_some _ _ s takes).1 in
       (e, o, k ∙ ap submit t.0, ap (λ z. (submit_of S.kind.width S.kind.valid m u z).0) (sym t.0) ∙ ok, slot)
 

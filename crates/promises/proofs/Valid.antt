@@ -122,7 +122,7 @@ module _ (S : Set) (i : ℕ) (h : Honest S i) where
       let p = state S c i in
       let on = subst (λ (b : Box (List ℕ)). Board b x) (sym (follows S i h c l).box) e in
       let good = (all_valid c l).holds (B c).me (cell x) x e in
-      let broad = λ (y : List ℕ) (k : entry_stated x ≡ Some y). S.kind.wide y (good y k) in
+      let broad = λ (y : List ℕ) (k : entry_stated x ≡ Some y). S.wide y (good y k) in
       record {
         message = spoken x;
         parsed = written_read S.kind.width (spoken x) ((stands p.0 x p.0.set.me p.1 (cell x) on).fits S.kind.width broad);

@@ -17,7 +17,7 @@ use Rattle.intake.specs.Meaning.{Says}
 use Rattle.intake.specs.Hearing.{hear_of}
 use Rattle.intake.specs.Submitting.{unused_of, submit_of}
 use Rattle.turns.specs.Turning.{open_of, turn_of}
-use Rattle.promises.specs.Runs.{Kind, Call, submit, opens, hear, turns, Asked, State, after}
+use Rattle.promises.specs.Runs.{Kind, Wide, Call, submit, opens, hear, turns, Asked, State, after}
 
 -- as an accepted make left replica i of n with w slots each, whatever its tables held
 abbrev pub Made : ℕ → ℕ → ℕ → State → Type 0
@@ -32,6 +32,7 @@ pub record Set : Type 0 where
   pub some : 1 ≤ w
   pub slots : w ≤ 16
   pub kind : Kind
+  pub wide : Wide kind
   pub coin : ℕ → ℕ → Bool
   pub honest : ℕ → Bool
   pub few : count n (λ i. not (honest i)) ≤ faults n

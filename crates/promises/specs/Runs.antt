@@ -10,7 +10,14 @@ use Rattle.turns.specs.Turning.{open_of, turn_of}
 pub record Kind : Type 0 where
   pub width : ℕ
   pub valid : List ℕ → Bool
-  pub wide : (s : List ℕ) → valid s ≡ true → length s ≡ width
+
+-- of a type of entries
+abbrev pub kind_of : ℕ → (List ℕ → Bool) → Kind
+kind_of width valid = record { width = width; valid = valid }
+
+-- its law: each entry is as wide
+abbrev pub Wide : Kind → Type 0
+Wide K = (s : List ℕ) → K.valid s ≡ true → length s ≡ K.width
 
 -- submit an entry's bytes, open the epoch, hear bytes from a sender, take a turn
 pub data Call : Type 0 where

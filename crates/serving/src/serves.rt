@@ -1,8 +1,8 @@
-ghost use Rattle.std.specs.Prelude.{◌≡◌};
+ghost use Rattle.std.specs.Prelude.{◌≡◌, map, length};
 ghost use Rattle.common.specs.Refusals.{numbered};
 ghost use Rattle.replica.specs.Store.{store};
 ghost use Rattle.promises.specs.Promised.{Promise};
-ghost use Rattle.promises.specs.Runs.{Kind, call_of};
+ghost use Rattle.promises.specs.Runs.{kind_of, call_of};
 ghost use Rattle.serving.specs.Serves.{call_in, served};
 
 use crate::call::Call;
@@ -20,7 +20,7 @@ pub fn serve<K: Entry, C: Coin>(
     coin: &mut C,
     call: Call<'_>,
 ) -> Result<u8, Refusal>
-    ensures value { (kind : Kind) → kind.width ≡ K.WIDTH → kind.valid ≡ K.valid → (numbered result, replica.new, store K.bytes tables.new) ≡ call_of kind (C.meaning coin.old) replica.old (store K.bytes tables.old) (call_in call.entry) }
+    ensures value { (numbered result, replica.new, store K.bytes tables.new) ≡ call_of (kind_of K.WIDTH K.valid) (C.meaning coin.old) replica.old (store K.bytes tables.old) (call_in call.entry) }
     ensures coin { C.meaning coin.new ≡ C.meaning coin.old }
     ensures promise { Promise }
 {
@@ -33,17 +33,19 @@ pub fn serve<K: Entry, C: Coin>(
     Ok(0)
 }
 
-// Makes the calls of a list, one after the other, whatever they answer.
+// Makes the calls of a list, one after the other, whatever they answer, and puts down what each answers.
 pub fn serve_all<K: Entry, C: Coin>(
     replica: &mut Replica,
     tables: &mut Tables<'_, K>,
     coin: &mut C,
     calls: &[Call<'_>],
+    answers: &mut [Result<u8, Refusal>],
 )
-    ensures value { (kind : Kind) → kind.width ≡ K.WIDTH → kind.valid ≡ K.valid → (replica.new, store K.bytes tables.new) ≡ served kind (C.meaning coin.old) replica.old (store K.bytes tables.old) calls.now }
+    requires each { length answers.old ≡ length calls.now }
+    ensures value { (map numbered answers.new, replica.new, store K.bytes tables.new) ≡ served (kind_of K.WIDTH K.valid) (C.meaning coin.old) replica.old (store K.bytes tables.old) calls.now }
     ensures coin { C.meaning coin.new ≡ C.meaning coin.old }
 {
-    for call in calls {
-        let _answer = serve(replica, tables, coin, *call);
+    for (i, call) in calls.iter().enumerate() {
+        answers[i] = serve(replica, tables, coin, *call);
     }
 }
