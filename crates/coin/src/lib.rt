@@ -11,4 +11,4 @@ mod sheets;
 
 pub use bench::Bench;
 pub use kind::Coin;
-pub use sheet::Sheet;
+pub use sheet::{SHEET, Sheet};

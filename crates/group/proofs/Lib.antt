@@ -1,0 +1,9 @@
+pub mod Calling
+pub mod Steps
+pub mod Airing
+pub mod Keeping
+pub mod Blanking
+pub mod Peopling
+pub mod Resting
+pub mod Tracing
+pub mod Fairing

@@ -1,0 +1,4 @@
+pub mod Groups
+pub mod Makings
+pub mod Weeks
+pub mod Traces

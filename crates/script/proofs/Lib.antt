@@ -1,0 +1,4 @@
+pub mod Filing
+pub mod Cutting
+pub mod Doing
+pub mod Agreeing

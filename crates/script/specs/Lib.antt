@@ -1,0 +1,3 @@
+pub mod Commands
+pub mod Scripts
+pub mod Writing
