@@ -10,7 +10,7 @@ import sys
 TESTS = ("checks", "trials", "weeks")
 
 # The crates that were written behind the pass.
-LATER = ("dues", "moves", "serving", "weeks")
+LATER = ("dues", "moves", "serving", "weeks", "group", "script", "weekbook", "setbook")
 
 ALL = "--all" in sys.argv
 
