@@ -15,13 +15,13 @@ pub record Agree (p q : State) : Type 0 where
   pub agreement : Begins (book_of p.0 p.1) (book_of q.0 q.1) ⊎ Begins (book_of q.0 q.1) (book_of p.0 p.1)
   pub no_repetition : Once same_bytes (book_of p.0 p.1)
 
--- A script played by n replicas with w slots each, as make leaves them: it accounts for each byte, and is a list of calls
--- of the theorem's runs. Whoever at most f of them are: if no command
+-- A script played by n replicas with w slots each, as make leaves them, which there are: it accounts for each byte, and is
+-- a list of calls of the theorem's runs. Whoever at most f of them are: if no command
 -- forges a statement in another's name, the books of all others agree at its end, and so at the end of each beginning of it.
 pub record Written (F : Form) (coin : ℕ → ℕ → Bool) (n w : ℕ) (s text : List ℕ) : Type 0 where
   pub group : Group
   pub made : Made n w n group
-  pub said : text ≡ (played F coin s ([], group)).0
+  pub said : (g : Group) → Made n w n g → text ≡ (played F coin s ([], g)).0
   pub runs : Runs F coin s group
   pub accounts : Accounts F.kind.width n s
   pub agree :
