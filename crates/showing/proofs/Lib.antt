@@ -8,4 +8,4 @@ pub mod Filling
 pub mod Stepping
 pub mod Promising
 pub mod Ranking
-pub mod Finding
+pub mod Owning

@@ -4,10 +4,11 @@ use Rattle.std.specs.List.{range_with_len}
 use Rattle.common.specs.Limits.{epochs, rounds}
 use Rattle.theory.specs.Statement.{Stmt, Cell, at_send, at_echo, at_ready, at_have, at_value, at_seen, at_confirm, at_finish}
 use Rattle.theory.specs.Machine.{own}
+use Rattle.cells.specs.Rows.{Cells}
 use Rattle.replica.specs.declared.set.Set.{Set}
 use Rattle.replica.specs.declared.state.Replica.{Replica}
 use Rattle.replica.specs.Store.{Store}
-use Rattle.replica.specs.View.{box}
+use Rattle.replica.specs.View.{row_cell, box}
 
 -- the cells f 0 to f (k - 1)
 unfoldable pub run : ℕ → (ℕ → Cell) → List Cell
@@ -25,6 +26,10 @@ by_table set i =
     cond (i / rows == 0) (by_slot w at_echo (i % rows))
     (cond (i / rows == 1) (by_slot w at_ready (i % rows))
     (by_slot w at_have (i % rows)))
+
+-- the replica's own statement, which st makes, of the slot j of all queues
+abbrev pub own_row : Set → Cells → (ℕ → ℕ → List ℕ → Stmt (List ℕ)) → ℕ → Option (Stmt (List ℕ))
+own_row set cells st j = row_cell set.n set.w cells (st (j / set.w) (j % set.w)) (j / set.w) (j % set.w) set.me
 
 -- the four cells of a round
 abbrev pub by_kind : ℕ → ℕ → ℕ → Cell

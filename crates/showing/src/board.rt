@@ -40,11 +40,17 @@ impl<'a, 't, K: Entry> Iterator for Board<'a, 't, K> {
 
     ghost remaining = { item_count (λ left. left) };
 
+    // In line, so that a loop over the board works out once what is the same at each place. With `find_map` the pair of place
+    // and claim was made anew at each: that was timed.
+    #[inline(always)]
     fn next(&mut self) -> Option<Claim<K>> {
-        let end = places(self.lent.replica);
-        let (i, claim) = (self.place..end).find_map(|i| Some((i, claim_at(&self.lent, i)?)))?;
-        self.place = i + 1;
-        Some(claim)
+        for i in self.place..places(self.lent.replica) {
+            if let Some(claim) = claim_at(&self.lent, i) {
+                self.place = i + 1;
+                return Some(claim);
+            }
+        }
+        None
     }
 }
 
