@@ -84,7 +84,7 @@ impl Options {
 // Why a view ends early.
 enum Stop {
     Refused(Refusal),
-    Failed(io::Error),
+    Failed(anyhow::Error),
 }
 
 impl From<Refusal> for Stop {
@@ -95,13 +95,14 @@ impl From<Refusal> for Stop {
 
 impl From<io::Error> for Stop {
     fn from(error: io::Error) -> Stop {
-        Stop::Failed(error)
+        Stop::Failed(error.into())
     }
 }
 
+// What is printed of it is its own text, and not that of an error of input or output.
 impl From<AllocError> for Stop {
     fn from(error: AllocError) -> Stop {
-        Stop::Failed(io::Error::from(error))
+        Stop::Failed(error.into())
     }
 }
 
@@ -117,7 +118,7 @@ fn main(rt: HostRuntime) -> anyhow::Result<ExitCode> {
     match viewed {
         Ok(()) => {}
         Err(Stop::Refused(refusal)) => println!(rt; "refused;{refusal}")?,
-        Err(Stop::Failed(error)) => return Err(error.into()),
+        Err(Stop::Failed(error)) => return Err(error),
     }
     Ok(ExitCode::SUCCESS)
 }
