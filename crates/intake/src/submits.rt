@@ -9,15 +9,15 @@ ghost use Rattle.intake.specs.Submitting.{unused_of, offer_of, submit_of, Submit
 
 use common::Refusal;
 use entry::Entry;
-use replica::{Claim, Fitted, Replica, Tables};
+use replica::{Claim, Fitted, Replica, Set, Tables};
 use wire::measure;
 
-// Whether a slot of the own queue has no own send.
-fn is_unused<K: Entry>(lent: &Fitted<'_, '_, K>, slot: u8) -> bool
-    requires { slot < lent.now.replica.now.set.w }
+// Whether a slot of the own queue has no own send. The set is passed beside, so that a search reads it once.
+fn is_unused<K: Entry>(lent: &Fitted<'_, '_, K>, set: Set, slot: u8) -> bool
+    requires own { set ≡ lent.now.replica.now.set }
+    requires inside { slot < lent.now.replica.now.set.w }
     ensures { result ≡ absent (view lent.now.replica.now (store K.bytes lent.now.tables.now) lent.now.replica.now.set.me (at_send slot)) }
 {
-    let set = lent.replica.set;
     let at = set.grid().slot_place(set.me, slot);
     lent.tables.sends.get(at).is_none()
 }
@@ -26,7 +26,8 @@ fn is_unused<K: Entry>(lent: &Fitted<'_, '_, K>, slot: u8) -> bool
 fn unused<K: Entry>(lent: &Fitted<'_, '_, K>) -> Option<u8>
     ensures { result ≡ unused_of lent.now.replica.now (store K.bytes lent.now.tables.now) }
 {
-    (0..lent.replica.set.w).find(|slot| is_unused(lent, *slot))
+    let set = lent.replica.set;
+    (0..set.w).find(|slot| is_unused(lent, set, *slot))
 }
 
 // The send that the bytes of an entry become.
