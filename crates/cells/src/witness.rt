@@ -7,10 +7,11 @@ use crate::slices::empty;
 use entry::Entry;
 use std::marker::Model;
 
-// A table of cells in lent memory: free, or with what is held there.
+// A table of cells in lent memory: free, or with what is held there. Who takes it apart has the memory back, and knows
+// what became of it.
 #[derive(Drop)]
 pub struct Witness<'a, T> {
-    cells: &'a mut [Option<T>],
+    pub cells: &'a mut [Option<T>],
 }
 
 impl<'a, T> Model for Witness<'a, T> {
