@@ -8,7 +8,7 @@ use Rattle.wire.proofs.Walking.{Piece, first_piece, next_first, walk_first}
 use Rattle.day.specs.Days.{Run, noted, refused_line, heard_at, onward, frame_from, frame_of, heard_all, Heard}
 
 -- the next statement has bytes, and lies inside the frame
-inside : (w : ℕ) (s : List ℕ) (p : ℕ) → p ≤ length s → (t : List ℕ) → next_of w s p ≡ Ok (Some t) → (1 ≤ length t) × (p + length t ≤ length s)
+pub inside : (w : ℕ) (s : List ℕ) (p : ℕ) → p ≤ length s → (t : List ℕ) → next_of w s p ≡ Ok (Some t) → (1 ≤ length t) × (p + length t ≤ length s)
 inside w s p low t e =
     let piece : Piece w (drop p s) t = first_piece w (drop p s) t (sym (next_first w p s low) ∙ e) in
     let long : length (drop p s) ≡ length t + length (drop (length t) (drop p s)) = ap length piece.cut ∙ length-append t (drop (length t) (drop p s)) in

@@ -29,14 +29,14 @@ module _ (out a : List ℕ) (at : ℕ) (h : at + length a ≤ length out) where
       ∙ ap (drop k) (ap (drop (at + length a)) again ∙ drop_at (take at out ++ a) (drop (at + length a) out) _ front)
       ∙ drop-drop k (at + length a) out
 
-  length_laid : length (laid out at a) ≡ length out
+  pub length_laid : length (laid out at a) ≡ length out
   length_laid = ap length again ∙ length-append (take at out ++ a) (drop (at + length a) out) ∙ (λ i. front i + length-drop (at + length a) out i) ∙ omega arith
 
 pub none_laid : (out : List ℕ) (at : ℕ) → at + 0 ≤ length out → Laid out at [] at out
 none_laid out at h = record { fits = h; value = omega arith; after = sym (ap (λ k. take at out ++ drop k out) (add-zero at) ∙ take-append-drop at out) }
 
 -- a part, and another behind it
-then : {out a b mid last : List ℕ} {at m r : ℕ} → Laid out at a m mid → Laid mid m b r last → Laid out at (a ++ b) r last
+pub then : {out a b mid last : List ℕ} {at m r : ℕ} → Laid out at a m mid → Laid mid m b r last → Laid out at (a ++ b) r last
 then {out} {a} {b} {mid} {last} {at} {m} {r} x y =
     let long : length (a ++ b) ≡ length a + length b = length-append a b in
     let size : length mid ≡ length out = ap length x.after ∙ length_laid out a at x.fits in

@@ -50,7 +50,7 @@ low_bit : (h m : ℕ) → (h * 2 + m % 2) % 2 ≡ m % 2
 low_bit h m = omega arith
 
 -- the ones among the lowest n bits are the senders below n
-low_ones : (n m : ℕ) → ones (m % 2 ^ n) ≡ count n (has m)
+pub low_ones : (n m : ℕ) → ones (m % 2 ^ n) ≡ count n (has m)
 low_ones zero m = let e : m % 1 ≡ 0 = omega arith in ap ones e ∙ ones_zero
 low_ones (suc n) m =
     let k : n + 1 ≡ suc n = add-one n in
