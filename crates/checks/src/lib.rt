@@ -1,6 +1,7 @@
 // The worked examples that are proved, as one table, and the tests that are run: each range's edges and
 // what lies just past them, each refusal, frames cut at each byte.
 // `examples_stand` does nothing: a contract stands on it, and a `()` would be no plainer than the 0 that it answers.
+// `lending` has two callers that lend memory to a table: their contracts say what becomes of it.
 // Nothing here is used by another crate but the memory for the tests of a replica, which `trials` lends too.
 #![tactic(auto)]
 
@@ -12,6 +13,7 @@ mod coins;
 mod entries;
 #[cfg(test)]
 mod frames;
+pub mod lending;
 pub mod memory;
 #[cfg(test)]
 mod quorums;

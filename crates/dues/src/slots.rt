@@ -59,9 +59,9 @@ fn vouched<K: Entry>(
 ) -> Option<K>
     requires low { queue < set.now.n }
     requires inside { slot < set.now.w }
-    requires stated { set.now.n * set.now.w * set.now.n ≤ length stated.now }
-    requires heard { set.now.n * set.now.w * set.now.n ≤ length heard.now }
-    ensures { option_map K.bytes result ≡ vouched_of set.now queue slot (map (option_map K.bytes) stated.now) (map (option_map K.bytes) heard.now) enough }
+    requires stated { set.now.n * set.now.w * set.now.n ≤ length stated.now.cells.now }
+    requires heard { set.now.n * set.now.w * set.now.n ≤ length heard.now.cells.now }
+    ensures { option_map K.bytes result ≡ vouched_of set.now queue slot (map (option_map K.bytes) stated.now.cells.now) (map (option_map K.bytes) heard.now.cells.now) enough }
 {
     let grid = set.grid();
     if stated.get(grid.place(queue, slot, set.me)).is_some() {

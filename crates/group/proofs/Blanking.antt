@@ -15,13 +15,13 @@ empty f xs k j is same = ap (map (option_map f)) is ∙ none_mapped f k ∙ ap (
 
 pub blank_store :
     {K : Type 0} (bytes : K → List ℕ) (t : Tables K) (n w slots rows : ℕ) → slots ≡ n * w → rows ≡ n * w * n
-    → t.sends ≡ replicate slots None → t.echoes ≡ replicate rows None → t.readies ≡ replicate rows None → t.haves ≡ replicate rows None → t.pages ≡ replicate slots None
+    → t.sends.cells.now ≡ replicate slots None → t.echoes.cells.now ≡ replicate rows None → t.readies.cells.now ≡ replicate rows None → t.haves.cells.now ≡ replicate rows None → t.pages.cells.now ≡ replicate slots None
     → store bytes t ≡ blank n w
 blank_store bytes t n w slots rows s r a b c d e =
     λ i. record {
-      sends = empty bytes t.sends slots (n * w) a s i;
-      echoes = empty bytes t.echoes rows (n * w * n) b r i;
-      readies = empty bytes t.readies rows (n * w * n) c r i;
-      haves = empty bytes t.haves rows (n * w * n) d r i;
-      pages = empty (paged bytes) t.pages slots (n * w) e s i;
+      sends = empty bytes t.sends.cells.now slots (n * w) a s i;
+      echoes = empty bytes t.echoes.cells.now rows (n * w * n) b r i;
+      readies = empty bytes t.readies.cells.now rows (n * w * n) c r i;
+      haves = empty bytes t.haves.cells.now rows (n * w * n) d r i;
+      pages = empty (paged bytes) t.pages.cells.now slots (n * w) e s i;
     }

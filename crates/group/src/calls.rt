@@ -31,11 +31,7 @@ impl<K: Entry, C: Coin> Group<'_, K, C> {
             return Err(Refusal::Sender);
         }
         let member = &mut self.members[at];
-        serve(
-            &mut member.replica,
-            &mut member.tables,
-            &mut self.coin,
-            call,
-        )
+        let own = &mut member.tables;
+        serve(&mut member.replica, &mut own.tables, &mut self.coin, call)
     }
 }

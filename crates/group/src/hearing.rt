@@ -20,7 +20,8 @@ impl<K: Entry> Member<'_, K> {
         ensures size { length buffer.new ≡ length buffer.old }
         ensures value { MatchOption result (number ≡ length (board_at (Some (state_of K.bytes self.now)))) (λ s. Part K.WIDTH (board_at (Some (state_of K.bytes self.now))) number s.next buffer.new s.bytes) }
     {
-        let Ok(shown) = show(&self.replica, &self.tables, number, buffer) else {
+        let own = &self.tables;
+        let Ok(shown) = show(&self.replica, &own.tables, number, buffer) else {
             return None;
         };
         (number < shown.next).then_some(shown)

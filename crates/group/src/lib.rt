@@ -11,4 +11,4 @@ mod settling;
 mod turning;
 
 pub use making::blank;
-pub use member::{Group, Member};
+pub use member::{Group, Member, Own};

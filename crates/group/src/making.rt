@@ -5,7 +5,7 @@ ghost use Rattle.replica.specs.Store.{store};
 ghost use Rattle.replica.specs.Making.{plain, make_of};
 ghost use Rattle.group.specs.Makings.{blank, member_made};
 
-use crate::member::Member;
+use crate::member::{Member, Own};
 use cells::Grid;
 use common::Refusal;
 use entry::Entry;
@@ -40,6 +40,9 @@ impl<'a, K: Entry> Member<'a, K> {
         ensures { member_made (answered (λ x. (plain x.replica, store K.bytes x.tables)) result) (make_of n me w (store K.bytes tables.entry)) }
     {
         let replica = Replica::make(n, me, w, &mut tables)?;
-        Ok(Member { replica, tables })
+        Ok(Member {
+            replica,
+            tables: Own { tables },
+        })
     }
 }

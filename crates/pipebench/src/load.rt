@@ -32,7 +32,7 @@ fn reading(me: u8, slot: u8) -> [u8; 8] {
 fn rest(member: &mut Member<'_, Reading>, counts: &mut Counts) {
     for _ in 0..TURNS {
         tick(&mut counts.turns);
-        let answer = turn(&mut member.replica, &mut member.tables, &mut Bench);
+        let answer = turn(&mut member.replica, &mut member.tables.tables, &mut Bench);
         if !answer.is_ok_and(|number| number > 0) {
             return;
         }
@@ -84,7 +84,7 @@ impl<'a> Load<'a> {
             for slot in 0..self.set.w {
                 let entry = reading(member.replica.set.me, slot);
                 tick(&mut self.counts.submits);
-                let _ = submit(&mut member.replica, &mut member.tables, &entry);
+                let _ = submit(&mut member.replica, &mut member.tables.tables, &entry);
             }
         }
     }
@@ -100,7 +100,7 @@ impl<'a> Load<'a> {
     fn open_all(&mut self) {
         for member in &mut self.members {
             tick(&mut self.counts.opens);
-            let _ = open(&mut member.replica, &mut member.tables);
+            let _ = open(&mut member.replica, &mut member.tables.tables);
         }
     }
 
@@ -130,7 +130,7 @@ impl<'a> Load<'a> {
     fn frame(&mut self, sender: u8, number: usize, buffer: &mut [u8]) -> Option<Shown> {
         tick(&mut self.counts.shows);
         let member = self.members.get(usize::from(sender))?;
-        let shown = show(&member.replica, &member.tables, number, buffer).ok()?;
+        let shown = show(&member.replica, &member.tables.tables, number, buffer).ok()?;
         (number < shown.next).then_some(shown)
     }
 
@@ -152,7 +152,14 @@ impl<'a> Load<'a> {
                 continue;
             }
             tick(&mut self.counts.hears);
-            if hear(&mut member.replica, &mut member.tables, sender, bytes).is_ok() {
+            if hear(
+                &mut member.replica,
+                &mut member.tables.tables,
+                sender,
+                bytes,
+            )
+            .is_ok()
+            {
                 tick(&mut self.counts.accepted);
             }
         }
@@ -178,7 +185,7 @@ impl<'a> Load<'a> {
         let mut digest = Digest::new();
         for member in &self.members {
             tick(&mut self.counts.prints);
-            if let Ok(bytes) = print(&member.replica, &member.tables, buffer) {
+            if let Ok(bytes) = print(&member.replica, &member.tables.tables, buffer) {
                 if let Some(file) = buffer.get(..bytes) {
                     digest.add(file);
                 }

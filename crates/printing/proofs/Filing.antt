@@ -28,7 +28,7 @@ module _ {K : Type 0} (bytes : K → List ℕ) (heading : List ℕ) (columns : L
       ap (λ x. (numbered x, out)) is ∙ rw (← f.0) (ap (λ k. (Err k, out)) f.1)
 
   -- a replica and tables that were found to fit, and the cells that it counts
-  module _ (n : Replica) (u : Tables K) (long : fits n.set.n n.set.w (store bytes u) ≡ true) (same : Ok (n, u) ≡ fitted_of bytes m t) (cells : List (Option (Page K))) (counted : cells ≡ take n.pages u.pages) where
+  module _ (n : Replica) (u : Tables K) (long : fits n.set.n n.set.w (store bytes u) ≡ true) (same : Ok (n, u) ≡ fitted_of bytes m t) (cells : List (Option (Page K))) (counted : cells ≡ take n.pages u.pages.cells.now) where
     abbrev book : List (theory.Page (List ℕ))
     book = leading (map (option_map (paged bytes)) cells)
 

@@ -32,8 +32,8 @@ module _ {K : Type 0} (b : K → List ℕ) (cells : List (Option (declared.Page 
   left i = stands_in_book same_bytes (leading (map (option_map (paged b)) (drop i cells))) x
 
 -- the book, in the cells that the replica counts
-pub book_is : {K : Type 0} (b : K → List ℕ) (m : Replica) (t : Tables K) (cells : List (Option (declared.Page K))) → cells ≡ take m.pages t.pages → leading (map (option_map (paged b)) cells) ≡ book_of m (store b t)
-book_is b m t cells e = ap (λ l. leading (map (option_map (paged b)) l)) e ∙ ap leading (sym (take-map (option_map (paged b)) m.pages t.pages))
+pub book_is : {K : Type 0} (b : K → List ℕ) (m : Replica) (t : Tables K) (cells : List (Option (declared.Page K))) → cells ≡ take m.pages t.pages.cells.now → leading (map (option_map (paged b)) cells) ≡ book_of m (store b t)
+book_is b m t cells e = ap (λ l. leading (map (option_map (paged b)) l)) e ∙ ap leading (sym (take-map (option_map (paged b)) m.pages t.pages.cells.now))
 
 module _ (m : Replica) (t : Store) where
   leaf_at : fits m.set.n m.set.w t ≡ true → (k : ℕ) → found (get_or (take m.pages t.pages) k None) ≡ page_of m t k

@@ -19,11 +19,11 @@ paged bytes p = record { epoch = p.epoch; queue = p.queue; slot = p.slot; entry 
 
 abbrev pub store : {K : Type 0} → (K → List ℕ) → Tables K → Store
 store bytes t = record {
-  sends = map (option_map bytes) t.sends;
-  echoes = map (option_map bytes) t.echoes;
-  readies = map (option_map bytes) t.readies;
-  haves = map (option_map bytes) t.haves;
-  pages = map (option_map (paged bytes)) t.pages;
+  sends = map (option_map bytes) t.sends.cells.now;
+  echoes = map (option_map bytes) t.echoes.cells.now;
+  readies = map (option_map bytes) t.readies.cells.now;
+  haves = map (option_map bytes) t.haves.cells.now;
+  pages = map (option_map (paged bytes)) t.pages.cells.now;
 }
 
 -- whether each table is long enough for n replicas with w slots each

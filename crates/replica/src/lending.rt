@@ -14,11 +14,11 @@ impl<'a, K: Entry> Tables<'a, K> {
         haves: &'a mut [Option<K>],
         pages: &'a mut [Option<Page<K>>],
     ) -> Tables<'a, K>
-        ensures sends { result.sends ≡ sends.old }
-        ensures echoes { result.echoes ≡ echoes.old }
-        ensures readies { result.readies ≡ readies.old }
-        ensures haves { result.haves ≡ haves.old }
-        ensures pages { result.pages ≡ pages.old }
+        ensures sends { result.sends.cells.now ≡ sends.old }
+        ensures echoes { result.echoes.cells.now ≡ echoes.old }
+        ensures readies { result.readies.cells.now ≡ readies.old }
+        ensures haves { result.haves.cells.now ≡ haves.old }
+        ensures pages { result.pages.cells.now ≡ pages.old }
     {
         Tables {
             sends: Witness::over(sends),

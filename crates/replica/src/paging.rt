@@ -29,7 +29,7 @@ impl Replica {
 
     // The cells of the book: as many as the replica counts. For any tables, where a `Fitted` would ask more.
     pub fn book_cells<'t, K: Entry>(&self, tables: &'t Tables<'_, K>) -> &'t [Option<Page<K>>]
-        ensures { result.now ≡ take self.now.pages tables.now.pages }
+        ensures { result.now ≡ take self.now.pages tables.now.pages.cells.now }
     {
         let cells = tables.pages.as_slice();
         cells.get(..usize::from(self.pages)).unwrap_or(cells)

@@ -34,7 +34,8 @@ pub fn push_file<K: Entry>(
     ensures value { OnOk result (text.new.items ≡ text.old.items ++ printed K.heading K.columns (Some (state_of K.bytes member.now))) }
     ensures size { length buffer.new ≡ length buffer.old }
 {
-    let length = match print(&member.replica, &member.tables, buffer) {
+    let own = &member.tables;
+    let length = match print(&member.replica, &own.tables, buffer) {
         Ok(length) => length,
         Err(refusal) => return push_refused(text, refusal),
     };

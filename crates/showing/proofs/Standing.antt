@@ -220,8 +220,8 @@ pub store_wide :
 store_wide {K} bytes valid w t wide sound =
     let each = λ (k : K). wide (bytes k) (sound k) in
     record {
-      sends = entries_wide bytes w each t.sends;
-      echoes = entries_wide bytes w each t.echoes;
-      readies = entries_wide bytes w each t.readies;
-      haves = entries_wide bytes w each t.haves;
+      sends = entries_wide bytes w each t.sends.cells.now;
+      echoes = entries_wide bytes w each t.echoes.cells.now;
+      readies = entries_wide bytes w each t.readies.cells.now;
+      haves = entries_wide bytes w each t.haves.cells.now;
     }

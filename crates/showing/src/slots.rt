@@ -27,7 +27,7 @@ pub fn send_at<K: Entry>(lent: &Fitted<'_, '_, K>, slot: u8) -> Option<Claim<K>>
 // are worked out for a cell that holds one alone, since most hold none.
 fn own_entry<K: Entry>(table: &Witness<'_, K>, set: &Set, j: usize) -> Option<(u8, u8, K)>
     requires { j < set.now.n * set.now.w }
-    ensures { (st : ℕ → ℕ → List ℕ → Stmt (List ℕ)) → option_map (λ x. st x.0 x.1 (K.bytes x.2)) result ≡ own_row set.now (map (option_map K.bytes) table.now) st j }
+    ensures { (st : ℕ → ℕ → List ℕ → Stmt (List ℕ)) → option_map (λ x. st x.0 x.1 (K.bytes x.2)) result ≡ own_row set.now (map (option_map K.bytes) table.now.cells.now) st j }
 {
     let item = table.get(j * usize::from(set.n) + usize::from(set.me))?;
     let (queue, slot) = set.grid().slot_at(j);

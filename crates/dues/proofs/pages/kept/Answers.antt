@@ -9,5 +9,5 @@ pub returns : goal.returns
 returns g c =
     let b = g.K.Entry.bytes in
     let t = c.args.lent.now.tables.now in
-    ap (option_map b) c.get.ensures ∙ sym (map_read b t.haves c.place-at.result) ∙ ap (λ k. get_or (store b t).haves k None) (rw c.grid.ensures at c.place-at.ensures.value)
+    ap (option_map b) c.get.ensures ∙ sym (map_read b t.haves.cells.now c.place-at.result) ∙ ap (λ k. get_or (store b t).haves k None) (rw c.grid.ensures at c.place-at.ensures.value)
     ∙ kept_is c.args.lent.now.replica.now (store b t) c.args.queue c.args.slot c.requires.low c.requires.inside

@@ -10,7 +10,7 @@ returns-then-place-len g c =
     let m = c.args.replica.now in
     let t = c.args.tables.now in
     let p = c.args.page in
-    let pages = ap (map (option_map (paged b))) c.hold.ensures ∙ map-set (option_map (paged b)) t.pages c.from-place.result (Some p) ∙ ap (λ k. set (map (option_map (paged b)) t.pages) k (Some (paged b p))) c.from-place.ensures in
+    let pages = ap (map (option_map (paged b))) c.hold.ensures.cells ∙ map-set (option_map (paged b)) t.pages.cells.now c.from-place.result (Some p) ∙ ap (λ k. set (map (option_map (paged b)) t.pages.cells.now) k (Some (paged b p))) c.from-place.ensures in
     λ i. (
       record { set = m.set; epoch = m.epoch; stage = m.stage; votes = m.votes; past = m.past; heads = set m.heads (c.from.ensures i) (p.slot + 1); pages = c.saturating_add-replica.ensures i },
       record { sends = (store b t).sends; echoes = (store b t).echoes; readies = (store b t).readies; haves = (store b t).haves; pages = pages i },

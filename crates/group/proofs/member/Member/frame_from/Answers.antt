@@ -14,7 +14,7 @@ returns-in_default-clause-value g c =
     let m = c.args.self.now.replica in
     let t = store e.bytes c.args.self.now.tables in
     let wide = store_wide e.bytes e.valid e.WIDTH c.args.self.now.tables law.wide law.sound in
-    declined_end e.WIDTH law.least m t wide c.args.buffer.now c.requires.room c.show.ensures.law c.args.number c.show.new.out (number_of c.in_default.field-0) c.requires.there c.in_default.ensures.value
+    declined_end e.WIDTH law.least m t wide c.args.buffer.now c.requires.room (rw c.own.view_is at c.show.ensures.law) c.args.number c.show.new.out (number_of c.in_default.field-0) c.requires.there (rw c.own.view_is at c.in_default.ensures.value)
 
 pub returns-clause-value : goal.returns-clause-value
 returns-clause-value g c =
@@ -26,6 +26,6 @@ returns-clause-value g c =
     let s = c.in-Ok.shown in
     let n = c.args.number in
     then_on e.WIDTH (board_at (Some (state_of e.bytes c.args.self.now))) n c.show.new.out s
-    (shown_on e.WIDTH law.least m t wide c.args.buffer.now c.requires.room c.show.ensures.law n c.show.new.out s.bytes s.next (search rules) c.in-Ok.ensures.value)
-    (shown_end e.WIDTH law.least m t wide c.args.buffer.now c.requires.room c.show.ensures.law n c.show.new.out s.bytes s.next c.requires.there c.in-Ok.ensures.value)
+    (shown_on e.WIDTH law.least m t wide c.args.buffer.now c.requires.room (rw c.own.view_is at c.show.ensures.law) n c.show.new.out s.bytes s.next (search rules) (rw c.own.view_is at c.in-Ok.ensures.value))
+    (shown_end e.WIDTH law.least m t wide c.args.buffer.now c.requires.room (rw c.own.view_is at c.show.ensures.law) n c.show.new.out s.bytes s.next c.requires.there (rw c.own.view_is at c.in-Ok.ensures.value))
     c.then_some.result c.then_some.ensures

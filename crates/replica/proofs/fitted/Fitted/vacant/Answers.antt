@@ -7,17 +7,17 @@ use Rattle.replica.proofs.fitted.Fitted.vacant.Goals as goal
 pub returns-in-Echo : goal.returns-in-Echo
 returns-in-Echo g c =
     let s = c.in-Echo in
-    rw s.is (c.settle-in-Echo.ensures ∙ row_vacant g.K.PartialEq.eq g.K.Entry.bytes g.met.K.Entry.same (echo s.queue s.slot) (λ x y h. cc) _ _ c.requires.from _ (rw s.is at c.requires.ranged) c.args.self.now.tables.now.echoes _ _ _ c.get-in-Echo.ensures (rw c.grid-grid.ensures at c.place.ensures.value) s.item)
+    rw s.is (c.settle-in-Echo.ensures ∙ row_vacant g.K.PartialEq.eq g.K.Entry.bytes g.met.K.Entry.same (echo s.queue s.slot) (λ x y h. cc) _ _ c.requires.from _ (rw s.is at c.requires.ranged) c.args.self.now.tables.now.echoes.cells.now _ _ _ c.get-in-Echo.ensures (rw c.grid-grid.ensures at c.place.ensures.value) s.item)
 
 pub returns-in-Ready : goal.returns-in-Ready
 returns-in-Ready g c =
     let s = c.in-Ready in
-    rw s.is (c.settle-in-Ready.ensures ∙ row_vacant g.K.PartialEq.eq g.K.Entry.bytes g.met.K.Entry.same (ready s.queue s.slot) (λ x y h. cc) _ _ c.requires.from _ (rw s.is at c.requires.ranged) c.args.self.now.tables.now.readies _ _ _ c.get-in-Ready.ensures (rw c.grid-grid.ensures at c.place-in-Ready.ensures.value) s.item)
+    rw s.is (c.settle-in-Ready.ensures ∙ row_vacant g.K.PartialEq.eq g.K.Entry.bytes g.met.K.Entry.same (ready s.queue s.slot) (λ x y h. cc) _ _ c.requires.from _ (rw s.is at c.requires.ranged) c.args.self.now.tables.now.readies.cells.now _ _ _ c.get-in-Ready.ensures (rw c.grid-grid.ensures at c.place-in-Ready.ensures.value) s.item)
 
 pub returns-in-Have : goal.returns-in-Have
 returns-in-Have g c =
     let s = c.in-Have in
-    rw s.is (c.settle-in-Have.ensures ∙ row_vacant g.K.PartialEq.eq g.K.Entry.bytes g.met.K.Entry.same (have s.queue s.slot) (λ x y h. cc) _ _ c.requires.from _ (rw s.is at c.requires.ranged) c.args.self.now.tables.now.haves _ _ _ c.get-in-Have.ensures (rw c.grid-grid.ensures at c.place-in-Have.ensures.value) s.item)
+    rw s.is (c.settle-in-Have.ensures ∙ row_vacant g.K.PartialEq.eq g.K.Entry.bytes g.met.K.Entry.same (have s.queue s.slot) (λ x y h. cc) _ _ c.requires.from _ (rw s.is at c.requires.ranged) c.args.self.now.tables.now.haves.cells.now _ _ _ c.get-in-Have.ensures (rw c.grid-grid.ensures at c.place-in-Have.ensures.value) s.item)
 
 pub returns-in-Confirm : goal.returns-in-Confirm
 returns-in-Confirm g c =

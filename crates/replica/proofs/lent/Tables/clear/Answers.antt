@@ -16,9 +16,9 @@ returns g c =
     let slots = c.slots-slots.ensures in
     let rows = c.row_cells-rows.ensures in
     λ i. record {
-      sends = seen b t.sends _ _ _ c.clear.ensures slots i;
-      echoes = seen b t.echoes _ _ _ c.clear-2.ensures rows i;
-      readies = seen b t.readies _ _ _ c.clear-3.ensures rows i;
-      haves = seen b t.haves _ _ _ c.clear-4.ensures rows i;
-      pages = seen (paged b) t.pages _ _ _ c.clear-5.ensures slots i;
+      sends = seen b t.sends.cells.now _ _ _ c.clear.ensures.cells slots i;
+      echoes = seen b t.echoes.cells.now _ _ _ c.clear-2.ensures.cells rows i;
+      readies = seen b t.readies.cells.now _ _ _ c.clear-3.ensures.cells rows i;
+      haves = seen b t.haves.cells.now _ _ _ c.clear-4.ensures.cells rows i;
+      pages = seen (paged b) t.pages.cells.now _ _ _ c.clear-5.ensures.cells slots i;
     }

@@ -22,7 +22,7 @@ returns-in-Send g c =
     let s = c.in-Send in
     let m = c.args.self.now in
     let t = store g.K.Entry.bytes c.args.tables.now in
-    let value = filled g.K.Entry.bytes m t with_sends c.args.tables.now.sends _ _ _ s.item c.hold.ensures (rw c.grid-grid.ensures at c.slot_place.ensures.value) in
+    let value = filled g.K.Entry.bytes m t with_sends c.args.tables.now.sends.cells.now _ _ _ s.item c.hold.ensures.cells (rw c.grid-grid.ensures at c.slot_place.ensures.value) in
     rw s.is (record { value = value; heard = heard_by m t c.args.sender _ _ _ c.requires.lent c.requires.from (rw s.is at c.requires.ranged) value })
 
 pub returns-in-Echo : goal.returns-in-Echo
@@ -30,7 +30,7 @@ returns-in-Echo g c =
     let s = c.in-Echo in
     let m = c.args.self.now in
     let t = store g.K.Entry.bytes c.args.tables.now in
-    let value = filled g.K.Entry.bytes m t with_echoes c.args.tables.now.echoes _ _ _ s.item c.hold-in-Echo.ensures (rw c.grid-grid.ensures at c.place.ensures.value) in
+    let value = filled g.K.Entry.bytes m t with_echoes c.args.tables.now.echoes.cells.now _ _ _ s.item c.hold-in-Echo.ensures.cells (rw c.grid-grid.ensures at c.place.ensures.value) in
     rw s.is (record { value = value; heard = heard_by m t c.args.sender _ _ _ c.requires.lent c.requires.from (rw s.is at c.requires.ranged) value })
 
 pub returns-in-Ready : goal.returns-in-Ready
@@ -38,7 +38,7 @@ returns-in-Ready g c =
     let s = c.in-Ready in
     let m = c.args.self.now in
     let t = store g.K.Entry.bytes c.args.tables.now in
-    let value = filled g.K.Entry.bytes m t with_readies c.args.tables.now.readies _ _ _ s.item c.hold-in-Ready.ensures (rw c.grid-grid.ensures at c.place-in-Ready.ensures.value) in
+    let value = filled g.K.Entry.bytes m t with_readies c.args.tables.now.readies.cells.now _ _ _ s.item c.hold-in-Ready.ensures.cells (rw c.grid-grid.ensures at c.place-in-Ready.ensures.value) in
     rw s.is (record { value = value; heard = heard_by m t c.args.sender _ _ _ c.requires.lent c.requires.from (rw s.is at c.requires.ranged) value })
 
 pub returns-in-Have : goal.returns-in-Have
@@ -46,5 +46,5 @@ returns-in-Have g c =
     let s = c.in-Have in
     let m = c.args.self.now in
     let t = store g.K.Entry.bytes c.args.tables.now in
-    let value = filled g.K.Entry.bytes m t with_haves c.args.tables.now.haves _ _ _ s.item c.hold-in-Have.ensures (rw c.grid-grid.ensures at c.place-in-Have.ensures.value) in
+    let value = filled g.K.Entry.bytes m t with_haves c.args.tables.now.haves.cells.now _ _ _ s.item c.hold-in-Have.ensures.cells (rw c.grid-grid.ensures at c.place-in-Have.ensures.value) in
     rw s.is (record { value = value; heard = heard_by m t c.args.sender _ _ _ c.requires.lent c.requires.from (rw s.is at c.requires.ranged) value })

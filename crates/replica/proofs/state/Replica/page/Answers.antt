@@ -30,4 +30,4 @@ returns-clause-value g c =
     let given : c.in_ok-lent.lent.tables.now ≡ t = λ i. (q.0 i).1 in
     let there = rw given at c.get.ensures in
     answered_found b c.get.result c.ok_or.result c.ok_or.ensures.value
-    ∙ page_found m (store b t) c.args.place q.1 (search rules) (option_map (paged b) c.get.result) (ap (option_map (paged b)) there ∙ sym (map_read (paged b) t.pages c.args.place))
+    ∙ page_found m (store b t) c.args.place q.1 (search rules) (option_map (paged b) c.get.result) (ap (option_map (paged b)) there ∙ sym (map_read (paged b) t.pages.cells.now c.args.place))
