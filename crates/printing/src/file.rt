@@ -54,8 +54,8 @@ fn put_opening<S: Sink>(sink: &mut S, n: u8, pages: usize)
     ensures { S.put_gives sink.old (opening_of n pages) sink.new }
 {
     sink.put(b"book");
-    put_cell(sink, n);
-    put_cell(sink, pages);
+    put_cell(sink, u64::from(n));
+    put_cell(sink, pages as u64);
     sink.put(b"\n");
 }
 

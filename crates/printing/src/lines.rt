@@ -3,7 +3,7 @@ ghost use Rattle.replica.specs.Store.{paged};
 ghost use Rattle.printing.specs.Files.{cells_of, line_of};
 
 use crate::sink::Sink;
-use crate::text::{put_cell, put_decimal};
+use crate::text::put_cell;
 use entry::Entry;
 use replica::Page;
 
@@ -11,9 +11,9 @@ use replica::Page;
 pub fn put_line<K: Entry, S: Sink>(sink: &mut S, page: &Page<K>)
     ensures { S.put_gives sink.old (line_of K.columns (paged K.bytes page.now)) sink.new }
 {
-    put_decimal(sink, page.epoch);
-    put_cell(sink, page.queue);
-    put_cell(sink, page.slot);
+    sink.put_decimal(u64::from(page.epoch));
+    put_cell(sink, u64::from(page.queue));
+    put_cell(sink, u64::from(page.slot));
     put_columns(sink, &page.item);
     sink.put(b"\n");
 }
@@ -27,6 +27,6 @@ fn put_columns<K: Entry, S: Sink>(sink: &mut S, x: &K)
         let Some(n) = x.column(i) else {
             return;
         };
-        put_cell(sink, n);
+        put_cell(sink, u64::from(n));
     }
 }

@@ -1,8 +1,11 @@
 // What a text is put to, one part behind the other: the text is said once, and goes to each kind of sink.
-ghost use Rattle.std.specs.Prelude.{◌≡◌, ℕ, ◌+◌, ◌-◌, ◌^◌, ◌<◌, ◌≤◌, List, [], ◌++◌, length, min, refl};
+ghost use Rattle.std.specs.Prelude.{◌≡◌, ℕ, ◌+◌, ◌-◌, ◌^◌, ◌<◌, ◌≤◌, List, [], ◌++◌, length, min, decimal, refl};
 ghost use Rattle.std.proofs.Common.{◌∙◌};
 ghost use Rattle.printing.specs.Texts.{Laid};
 ghost use Rattle.printing.specs.Laying.{none_counted, both_counted, none_laid, both_laid};
+
+use crate::text::digits;
+use itoa::write_digits;
 
 pub trait Sink {
     // relates a sink, the bytes that are put to it, and the sink after it
@@ -11,6 +14,10 @@ pub trait Sink {
     // Puts the bytes behind what was put before.
     fn put(&mut self, bytes: &[u8])
         ensures { put_gives self.old bytes.now self.new };
+
+    // Puts a number in decimal.
+    fn put_decimal(&mut self, n: u64)
+        ensures { put_gives self.old (decimal n) self.new };
 
     // putting nothing leaves it as it is
     ghost nothing: { (s : Self) → put_gives s [] s };
@@ -35,6 +42,10 @@ impl Sink for Length {
     fn put(&mut self, bytes: &[u8]) {
         self.bytes = self.bytes.saturating_add(bytes.len());
     }
+
+    fn put_decimal(&mut self, n: u64) {
+        self.bytes = self.bytes.saturating_add(digits(n));
+    }
 }
 
 // Writes the bytes to a place in a buffer, where they fit.
@@ -55,6 +66,14 @@ impl Sink for Cursor<'_> {
         let end = self.at.saturating_add(bytes.len());
         if end <= self.out.len() {
             self.out[self.at..end].copy_from_slice(bytes);
+            self.at = end;
+        }
+    }
+
+    fn put_decimal(&mut self, n: u64) {
+        let end = self.at.saturating_add(digits(n));
+        if end <= self.out.len() {
+            write_digits(n, self.out, end);
             self.at = end;
         }
     }

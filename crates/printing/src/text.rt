@@ -1,20 +1,23 @@
 // Numbers as text.
-ghost use Rattle.std.specs.Prelude.{◌++◌, codes, decimal};
+ghost use Rattle.std.specs.Prelude.{◌≡◌, length, decimal};
+ghost use Rattle.printing.specs.Texts.{cell_of};
 
 use crate::sink::Sink;
-use itoa::{Buffer, Integer};
 
-// Puts a number in decimal.
-pub fn put_decimal<S: Sink, I: Integer>(sink: &mut S, n: I)
-    ensures { S.put_gives sink.old (I.text n) sink.new }
+// How many digits a number has.
+pub fn digits(n: u64) -> usize
+    ensures { result ≡ length (decimal n) }
 {
-    sink.put(Buffer::new().format(n).as_bytes());
+    if n < 10 {
+        return 1;
+    }
+    digits(n / 10) + 1
 }
 
 // Puts a number behind a semicolon.
-pub fn put_cell<S: Sink, I: Integer>(sink: &mut S, n: I)
-    ensures { S.put_gives sink.old (codes ";" ++ I.text n) sink.new }
+pub fn put_cell<S: Sink>(sink: &mut S, n: u64)
+    ensures { S.put_gives sink.old (cell_of n) sink.new }
 {
     sink.put(b";");
-    put_decimal(sink, n);
+    sink.put_decimal(n);
 }

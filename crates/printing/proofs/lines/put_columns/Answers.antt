@@ -18,4 +18,4 @@ loop-i-preserved g c =
     let i = c.loop-i.i-iterator.start in
     let further : i + 1 ≡ c.next.new.self.start = omega (arith, c.in-Some.ensures.steps) in
     let more = next ns i n (c.in-Some-column.ensures ∙ ap (slice_get ns) c.in-Some.ensures.steps.0) ∙ ap (λ k. n ∷ drop k ns) further in
-    on g.met.S.Sink.joined (ap cells_of more) c.loop-i.invariant c.put_cell.ensures
+    on g.met.S.Sink.joined (ap cells_of more) c.loop-i.invariant (rw c.from.ensures at c.put_cell.ensures)
