@@ -1,25 +1,19 @@
-ghost use Rattle.std.specs.Prelude.{◌≡◌, ◌<◌};
+ghost use Rattle.std.specs.Prelude.{◌≡◌, is_none, position};
 ghost use Rattle.common.specs.Refusals.{answered, numbered};
-ghost use Rattle.theory.specs.Statement.{at_send};
-ghost use Rattle.theory.specs.Search.{absent};
 ghost use Rattle.replica.specs.Store.{store};
-ghost use Rattle.replica.specs.View.{view};
 ghost use Rattle.replica.specs.Claims.{claim_of};
 ghost use Rattle.intake.specs.Submitting.{unused_of, offer_of, submit_of, Submits};
 
 use common::Refusal;
 use entry::Entry;
-use replica::{Claim, Fitted, Replica, Set, Tables};
+use replica::{Claim, Fitted, Replica, Tables};
 use wire::measure;
 
-// Whether a slot of the own queue has no own send. The set is passed beside, so that a search reads it once.
-fn is_unused<K: Entry>(lent: &Fitted<'_, '_, K>, set: Set, slot: u8) -> bool
-    requires own { set ≡ lent.now.replica.now.set }
-    requires inside { slot < lent.now.replica.now.set.w }
-    ensures { result ≡ absent (view lent.now.replica.now (store K.bytes lent.now.tables.now) lent.now.replica.now.set.me (at_send slot)) }
+// Where the first free cell of a row lies.
+fn first_free<T>(row: &[Option<T>]) -> Option<usize>
+    ensures { result ≡ position is_none row.now }
 {
-    let at = set.grid().slot_place(set.me, slot);
-    lent.tables.sends.get(at).is_none()
+    row.iter().position(|cell| cell.is_none())
 }
 
 // The lowest slot of the own queue without an own send.
@@ -27,7 +21,9 @@ fn unused<K: Entry>(lent: &Fitted<'_, '_, K>) -> Option<u8>
     ensures { result ≡ unused_of lent.now.replica.now (store K.bytes lent.now.tables.now) }
 {
     let set = lent.replica.set;
-    (0..set.w).find(|slot| is_unused(lent, set, *slot))
+    let own = set.grid().slot_place(set.me, 0);
+    let slot = first_free(lent.tables.sends.row(own, usize::from(set.w)))?;
+    Some(slot as u8)
 }
 
 // The send that the bytes of an entry become.
